@@ -1,0 +1,57 @@
+// The path from bytes to bytes.
+ghost use Rattle.std.specs.Prelude.{◌≡◌, ◌≤◌, ℕ, List};
+ghost use Rattle.scc_ports.specs.Ports.{Rose};
+ghost use Rattle.line_loop.specs.Meaning.{Ran};
+
+use crate::reply::{answer_line, answer_too_long, finish};
+use crate::{Ending, Machine};
+use scc_ports::{Sink, Source};
+use scc_text::{LineReader, Next};
+use step_count::Steps;
+use std::alloc::Global;
+use std::sync::ledger::Ledger;
+
+/// Answers each line of the source as it is read, and writes the final lines at its end.
+pub fn answer_lines<M: Machine, S: Source, K: Sink, L: Ledger>(
+    alloc: Global,
+    machine: &mut M,
+    source: &mut S,
+    sink: &mut K,
+    steps: &mut Steps<L>,
+) -> Ending
+    // There are bytes that were read, and each end says what was written and how many steps were made.
+    ensures ran { (read : List ℕ) × Ran (record { next = M.next; reply = M.reply; ticks = M.ticks; ending = M.ending }) machine.old result read (S.left source.old) (S.left source.new)
+        (K.written sink.old) (K.written sink.new) steps.old steps.new }
+
+    // A fault comes only where its object has counted one.
+    ensures read_fault { result ≡ Ending.ReadFault → Rose (S.faults source.old) (S.faults source.new) }
+    ensures write_fault { result ≡ Ending.WriteFault → Rose (K.faults sink.old) (K.faults sink.new) }
+    ensures source_later { S.faults source.old ≤ S.faults source.new }
+    ensures sink_later { K.faults sink.old ≤ K.faults sink.new }
+{
+    let Ok(mut reader) = LineReader::open(alloc) else {
+        return Ending::OutOfMemory;
+    };
+    let mut out = Vec::new(alloc);
+    'lines: loop {
+        match reader.next_line(source) {
+            Next::Line => {
+                let line = reader.line();
+                match answer_line(machine, line, &mut out, sink, steps) {
+                    Ok(()) => {}
+                    Err(status) => return status,
+                }
+            }
+            Next::TooLong => match answer_too_long(machine, &mut out, sink) {
+                Ok(()) => {}
+                Err(status) => return status,
+            },
+            Next::End => match finish(machine, &mut out, sink) {
+                Ok(()) => return Ending::Done,
+                Err(status) => return status,
+            },
+            Next::ReadFault => return Ending::ReadFault,
+            Next::InputLimit => return Ending::InputLimit,
+        }
+    }
+}

@@ -1,0 +1,438 @@
+ghost use Rattle.std.specs.Prelude.{◌≡◌, ◌≢◌, ℕ, ◌+◌, ◌<◌, ◌≤◌, ◌^◌, ℤ, List, Option, [], ◌∷◌, ◌++◌, nat_eq, slice_set, length, replicate, pos, None, IfOk, IsTrue, ◌↔◌, slice_index_or};
+
+use crate::arith;
+use crate::counters::Counters;
+use crate::kind::Kind;
+use access_sets::{ReadLog, WriteSet};
+use std::alloc::{AllocError, Global};
+use std::marker::Model;
+use std::sync::ledger::Ledger;
+use step_count::Steps;
+use txn_code::{Act, Code, Node};
+use txn_syntax::{Emits, End, Op, Operand, Outcome, TableRef};
+
+/// An execution of a program, which can be copied.
+#[derive(Drop)]
+pub struct State {
+    position: u32,
+    node: u32,
+    counters: Counters,
+    registers: [i64; 16],
+    reads: ReadLog,
+    writes: WriteSet,
+    emits: Emits,
+    end: End,
+}
+
+impl Model for State {
+    ghost use Rattle.txn_interp.specs.State.{Held, IsSized};
+    ghost use Rattle.access_sets.specs.Log.{Log};
+
+    ghost Value = { Held };
+
+    ghost view = { λ s. record { position = s.position; node = s.node; counters = s.counters; registers = s.registers; log = s.reads; writes = s.writes; emits = s.emits; end = s.end } };
+
+    ghost invariant = { λ s. IsSized s.reads s.writes };
+}
+
+impl State {
+    ghost use Rattle.txn_interp.specs.State.{Held, Carries, Runs, RunsOver, IsSafe};
+    ghost use Rattle.txn_syntax.specs.Order.{AreBefore};
+    ghost use Rattle.txn_interp.specs.Advance.{operand, moved, settle, put_in, fetch_in, turn_by, advance};
+    ghost use Rattle.txn_syntax.specs.Run.{Tables, register, item_at, own, logged};
+    ghost use Rattle.txn_syntax.specs.Value.{calc};
+    ghost use Rattle.txn_syntax.specs.Bounds.{after_register};
+
+    /// Takes the room for this many items, at most.
+    pub fn room(alloc: Global, items: u32) -> Result<State, AllocError>
+        ensures { IfOk result (λ s. s.log.room ≡ items) }
+    {
+        let reads = ReadLog::with_room(alloc, items)?;
+        let writes = WriteSet::with_room(alloc, items)?;
+        Ok(State {
+            position: 0,
+            node: 0,
+            counters: Counters::new(),
+            registers: [0; 16],
+            reads,
+            writes,
+            emits: Emits::new(),
+            end: End::Going,
+        })
+    }
+
+    pub fn position(&self) -> u32
+        ensures { result ≡ self.now.position }
+    {
+        self.position
+    }
+
+    pub fn reads(&self) -> &ReadLog
+        ensures { result.now ≡ self.now.log }
+    {
+        &self.reads
+    }
+
+    pub fn writes(&self) -> &WriteSet
+        ensures { result.now ≡ self.now.writes }
+    {
+        &self.writes
+    }
+
+    pub fn emits(&self) -> &Emits
+        ensures { result.now ≡ self.now.emits }
+    {
+        &self.emits
+    }
+
+    pub fn reg(&self, n: u8) -> i64
+        requires { n < 16 }
+        ensures { result ≡ slice_index_or self.now.registers n (pos 0) }
+    {
+        self.registers[n as usize]
+    }
+
+    fn operand(&self, from: Operand) -> i64
+        requires { after_register from ≤ 16 }
+        ensures { result ≡ operand self.now from }
+    {
+        match from {
+            Operand::Reg(n) => self.registers[n as usize],
+            Operand::Lit(value) => value,
+        }
+    }
+
+    fn move_to(&mut self, next: u32)
+        requires { self.old.position < 100000 }
+        ensures { self.new ≡ moved next self.old }
+    {
+        self.position += 1;
+        self.node = next;
+    }
+
+    fn put(&mut self, to: u8, value: i64)
+        requires { to < 16 }
+        ensures { self.new ≡ put_in to value self.old }
+    {
+        self.registers[to as usize] = value;
+    }
+
+    fn fail(&mut self, end: End)
+        ensures { self.new ≡ record self.old { end = end } }
+    {
+        self.end = end;
+    }
+
+    fn calculate(&mut self, to: u8, left: Operand, op: Op, right: Operand)
+        requires to { to < 16 }
+        requires left { after_register left ≤ 16 }
+        requires right { after_register right ≤ 16 }
+        ensures { self.new ≡ settle (calc op (operand self.old left) (operand self.old right)) self.old (λ x. put_in to x self.old) }
+    {
+        match arith::calc(op, self.operand(left), self.operand(right)) {
+            Ok(value) => self.put(to, value),
+            Err(kind) => self.fail(End::Fault { kind }),
+        }
+    }
+
+    fn emit(&mut self, value: i64)
+        requires { length self.old.emits < 64 }
+        ensures { self.new ≡ record self.old { emits = self.old.emits ++ value ∷ [] } }
+    {
+        self.emits.push(value);
+    }
+
+    fn write(&mut self, table: TableRef, at: Operand, from: Operand)
+        requires at { after_register at ≤ 16 }
+        requires from { after_register from ≤ 16 }
+        requires within { table.base + table.size ≤ self.old.log.room }
+        requires small { table.base + table.size < 2 ^ 32 }
+        ensures { self.new ≡ settle (item_at table (operand self.old at)) self.old (λ item. record self.old { writes = slice_set self.old.writes item (Some (operand self.old from)) }) }
+    {
+        let value = self.operand(from);
+        match arith::item_at(table, self.operand(at)) {
+            Ok(item) => self.writes.set(item, value),
+            Err(kind) => self.fail(End::Fault { kind }),
+        }
+    }
+
+    fn read(&mut self, to: u8, table: TableRef, at: Operand, position: u32, value: i64)
+        requires to { to < 16 }
+        requires at { after_register at ≤ 16 }
+        requires within { table.base + table.size ≤ self.old.log.room }
+        requires small { table.base + table.size < 2 ^ 32 }
+        requires before { AreBefore position self.old.log.reads }
+        ensures { self.new ≡ settle (item_at table (operand self.old at)) self.old (λ item. fetch_in (own self.old.writes item) (logged self.old.log.reads item) value position to item self.old) }
+    {
+        match arith::item_at(table, self.operand(at)) {
+            Ok(item) => self.fetch(to, item, position, value),
+            Err(kind) => self.fail(End::Fault { kind }),
+        }
+    }
+
+    fn fetch(&mut self, to: u8, item: u32, position: u32, value: i64)
+        requires to { to < 16 }
+        requires within { item < self.old.log.room }
+        requires before { AreBefore position self.old.log.reads }
+        ensures { self.new ≡ fetch_in (own self.old.writes item) (logged self.old.log.reads item) value position to item self.old }
+    {
+        match self.writes.get(item) {
+            Some(own) => self.put(to, own),
+            None => match self.reads.get(item) {
+                Some(logged) => self.put(to, logged),
+                None => {
+                    self.reads.note(position, item, value);
+                    self.put(to, value);
+                }
+            },
+        }
+    }
+
+    fn turn(&mut self, count: u32, depth: u8, next: u32, other: u32)
+        requires position { self.old.position < 100000 }
+        requires depth { depth < 8 }
+        requires inside { depth ≤ length self.old.counters }
+        requires near { length self.old.counters ≤ depth + 1 }
+        ensures { self.new ≡ turn_by (nat_eq (length self.old.counters) depth) count self.old.counters next other self.old }
+    {
+        let turns = if self.counters.len() == depth {
+            count
+        } else {
+            self.counters.pop()
+        };
+        if turns == 0 {
+            self.move_to(other);
+        } else {
+            self.counters.push(turns - 1);
+            self.move_to(next);
+        }
+    }
+
+    /// A step of this node, which finds `value` where it reads the tables.
+    fn apply(&mut self, node: Node, value: i64)
+        requires safe { IsSafe node.act self.old }
+        requires position { self.old.position < 100000 }
+        requires before { AreBefore self.old.position self.old.log.reads }
+        requires small { self.old.log.room < 2 ^ 32 }
+        ensures { self.new ≡ advance node.act node.next node.other value self.old }
+    {
+        let position = self.position;
+        match node.act {
+            Act::Calc {
+                to,
+                left,
+                op,
+                right,
+            } => {
+                self.move_to(node.next);
+                self.calculate(to, left, op, right)
+            }
+            Act::Move { to, from } => {
+                self.move_to(node.next);
+                let moved = self.operand(from);
+                self.put(to, moved)
+            }
+            Act::Read { to, table, at } => {
+                self.move_to(node.next);
+                self.read(to, table, at, position, value)
+            }
+            Act::Write { table, at, from } => {
+                self.move_to(node.next);
+                self.write(table, at, from)
+            }
+            Act::Test { left, cmp, right } => {
+                if arith::holds(cmp, self.operand(left), self.operand(right)) {
+                    self.move_to(node.next)
+                } else {
+                    self.move_to(node.other)
+                }
+            }
+            Act::Turn { count, depth } => self.turn(count, depth, node.next, node.other),
+            Act::Emit { from } => {
+                self.move_to(node.next);
+                let value = self.operand(from);
+                self.emit(value)
+            }
+            Act::Fail { code } => {
+                self.move_to(node.next);
+                let code = self.operand(code);
+                self.fail(End::Failed { code })
+            }
+            Act::End => {}
+        }
+    }
+
+    ghost use Rattle.txn_interp.specs.declared.kind.Kind.TheVariants.{Ended, TableRead};
+    ghost use Rattle.txn_interp.specs.Kind.{kind_of, held_kind, HasKind};
+    ghost use Rattle.txn_syntax.specs.Run.{after, stored};
+    ghost use Rattle.txn_syntax.specs.declared.program.Stmt.{Stmt};
+
+    fn kind(&self, act: Act) -> Kind
+        requires safe { IsSafe act self.now }
+        requires small { self.now.log.room < 2 ^ 32 }
+        ensures { result ≡ held_kind self.now act }
+    {
+        match act {
+            Act::Read { table, at, .. } => match arith::item_at(table, self.operand(at)) {
+                Ok(item) => {
+                    if self.writes.get(item).is_some() || self.reads.get(item).is_some() {
+                        Kind::Local
+                    } else {
+                        Kind::TableRead { item }
+                    }
+                }
+                Err(_) => Kind::Local,
+            },
+            Act::Write { table, at, from } => match arith::item_at(table, self.operand(at)) {
+                Ok(item) => Kind::Write {
+                    item,
+                    value: self.operand(from),
+                },
+                Err(_) => Kind::Local,
+            },
+            Act::End => Kind::Ended,
+            _ => Kind::Local,
+        }
+    }
+
+    /// What the next step is.
+    pub fn next_kind(&self, code: &Code) -> Kind
+        requires { Runs code.now.nodes self.now }
+        ensures { HasKind code.now.nodes self.now result }
+    {
+        match self.end {
+            End::Going => self.kind(code.node(self.node).act),
+            _ => Kind::Ended,
+        }
+    }
+
+    fn step(&mut self, code: &Code, value: i64)
+        requires runs { Runs code.now.nodes self.old }
+        requires goes { (kind : Kind) × HasKind code.now.nodes self.old kind × (kind ≢ Ended) }
+        ensures position { self.new.position ≡ self.old.position + 1 }
+        ensures same { (body : List Stmt) (tables : Tables) → ((item : ℕ) → HasKind code.now.nodes self.old (TableRead item) → stored tables item ≡ value) → RunsOver code.now.nodes body tables self.old → RunsOver code.now.nodes body tables self.new }
+    {
+        let node = code.node(self.node);
+        self.apply(node, value);
+    }
+
+    ghost use Rattle.txn_syntax.specs.Serial.{outcome_of};
+    ghost use Rattle.txn_interp.specs.State.{Advances, AdvancesWhere};
+    ghost use Rattle.txn_interp.specs.declared.kind.Kind.TheVariants.{Local, Write};
+    ghost use Rattle.txn_syntax.specs.Bounds.{reach, IsProgram};
+    ghost use Rattle.txn_code.specs.Flow.{Links};
+
+    /// Makes a step that is Local.
+    pub fn step_local<L: Ledger>(&mut self, code: &Code, steps: &mut Steps<L>)
+        requires runs { Runs code.now.nodes self.old }
+        requires kind { HasKind code.now.nodes self.old Local }
+        ensures runs { Runs code.now.nodes self.new }
+        ensures step { Advances code.now.nodes self.old self.new }
+        ensures tick { steps.new ≡ steps.old + 1 }
+    {
+        steps.tick();
+        self.step(code, 0);
+    }
+
+    /// Makes the read of an item of the tables, which have this value there.
+    pub fn step_read<L: Ledger>(&mut self, code: &Code, value: i64, steps: &mut Steps<L>)
+        requires runs { Runs code.now.nodes self.old }
+        requires kind { (item : ℕ) × HasKind code.now.nodes self.old (TableRead item) }
+        ensures runs { Runs code.now.nodes self.new }
+        ensures step { AdvancesWhere code.now.nodes (λ tables. (item : ℕ) → HasKind code.now.nodes self.old (TableRead item) → stored tables item ≡ value) self.old self.new }
+        ensures tick { steps.new ≡ steps.old + 1 }
+    {
+        steps.tick();
+        self.step(code, value);
+    }
+
+    /// Makes a write.
+    pub fn step_write<L: Ledger>(&mut self, code: &Code, steps: &mut Steps<L>)
+        requires runs { Runs code.now.nodes self.old }
+        requires kind { (item : ℕ) × (value : ℤ) × HasKind code.now.nodes self.old (Write item value) }
+        ensures runs { Runs code.now.nodes self.new }
+        ensures step { Advances code.now.nodes self.old self.new }
+        ensures tick { steps.new ≡ steps.old + 1 }
+    {
+        steps.tick();
+        self.step(code, 0);
+    }
+
+    /// The state before the first step of the code's program.
+    pub fn reset(&mut self, code: &Code)
+        requires { Carries code.now.nodes self.old.log.room }
+        ensures room { self.new.log.room ≡ self.old.log.room }
+        ensures runs { Runs code.now.nodes self.new }
+        ensures over { (body : List Stmt) (tables : Tables) → Links body code.now.nodes → length tables ≡ self.old.log.room → RunsOver code.now.nodes body tables self.new }
+        ensures position { self.new.position ≡ 0 }
+    {
+        self.position = 0;
+        self.node = 0;
+        self.counters.clear();
+        self.registers = [0; 16];
+        self.reads.clear();
+        self.writes.clear();
+        self.emits.clear();
+        self.end = End::Going;
+    }
+
+    /// Becomes the other state.
+    pub fn copy_from(&mut self, other: &State)
+        requires { self.old.log.room ≡ other.now.log.room }
+        ensures { self.new ≡ other.now }
+    {
+        self.position = other.position;
+        self.node = other.node;
+        self.counters.copy_from(&other.counters);
+        self.registers = other.registers;
+        self.reads.copy_from(&other.reads);
+        self.writes.copy_from(&other.writes);
+        self.emits.copy_from(&other.emits);
+        self.end = other.end;
+    }
+
+    /// Makes Local steps until the next one is not Local or so many are made, and answers their number.
+    pub fn run_local<L: Ledger>(&mut self, code: &Code, most: u32, steps: &mut Steps<L>) -> u32
+        requires runs { Runs code.now.nodes self.old }
+        ensures runs { Runs code.now.nodes self.new }
+        ensures made { self.new.position ≡ self.old.position + result }
+        ensures most { result ≤ most }
+        ensures stops { result < most → HasKind code.now.nodes self.new Local → ⊥ }
+        ensures same { (body : List Stmt) (tables : Tables) → RunsOver code.now.nodes body tables self.old → RunsOver code.now.nodes body tables self.new }
+        ensures ticks { steps.new ≡ steps.old + result }
+    {
+        let mut made = 0;
+        while made < most {
+            match self.next_kind(code) {
+                Kind::Local => self.step_local(code, steps),
+                _ => return made,
+            }
+            made += 1;
+        }
+        made
+    }
+
+    pub fn ended(&self, code: &Code) -> bool
+        requires { Runs code.now.nodes self.now }
+        ensures { IsTrue result ↔ HasKind code.now.nodes self.now Ended }
+    {
+        matches!(self.next_kind(code), Kind::Ended)
+    }
+
+    /// How the run has ended.
+    pub fn outcome(&self, code: &Code) -> Outcome
+        requires runs { Runs code.now.nodes self.now }
+        requires ended { HasKind code.now.nodes self.now Ended }
+        ensures { (body : List Stmt) (tables : Tables) → RunsOver code.now.nodes body tables self.now → result ≡ outcome_of body tables }
+    {
+        match self.end {
+            End::Going => {
+                let mut emits = Emits::new();
+                emits.copy_from(&self.emits);
+                Outcome::Done { emits }
+            }
+            End::Failed { code } => Outcome::Failed { code },
+            End::Fault { kind } => Outcome::Fault { kind },
+        }
+    }
+}
