@@ -9,7 +9,7 @@ use std::marker::Model;
 use std::sync::ledger::Ledger;
 use step_count::Steps;
 use txn_code::{Act, Code, Node};
-use txn_syntax::{Emits, End, Op, Operand, Outcome, TableRef};
+use txn_runs::{Emits, End, Op, Operand, Outcome, TableRef};
 
 /// An execution of a program, which can be copied.
 #[derive(Drop)]
@@ -37,11 +37,11 @@ impl Model for State {
 
 impl State {
     ghost use Rattle.txn_interp.specs.State.{Held, Carries, Runs, RunsOver, IsSafe};
-    ghost use Rattle.txn_syntax.specs.Order.{AreBefore};
+    ghost use Rattle.txn_runs.specs.Order.{AreBefore};
     ghost use Rattle.txn_interp.specs.Advance.{operand, moved, settle, put_in, fetch_in, turn_by, advance};
-    ghost use Rattle.txn_syntax.specs.Run.{Tables, register, item_at, own, logged};
-    ghost use Rattle.txn_syntax.specs.Value.{calc};
-    ghost use Rattle.txn_syntax.specs.Bounds.{after_register};
+    ghost use Rattle.txn_runs.specs.Run.{Tables, register, item_at, own, logged};
+    ghost use Rattle.txn_runs.specs.Value.{calc};
+    ghost use Rattle.txn_runs.specs.Bounds.{after_register};
 
     /// Takes the room for this many items, at most.
     pub fn room(alloc: Global, items: u32) -> Result<State, AllocError>
@@ -264,8 +264,8 @@ impl State {
 
     ghost use Rattle.txn_interp.specs.declared.kind.Kind.TheVariants.{Ended, TableRead};
     ghost use Rattle.txn_interp.specs.Kind.{kind_of, held_kind, HasKind};
-    ghost use Rattle.txn_syntax.specs.Run.{after, stored};
-    ghost use Rattle.txn_syntax.specs.declared.program.Stmt.{Stmt};
+    ghost use Rattle.txn_runs.specs.Run.{after, stored};
+    ghost use Rattle.txn_runs.specs.declared.program.Stmt.{Stmt};
 
     fn kind(&self, act: Act) -> Kind
         requires safe { IsSafe act self.now }
@@ -316,10 +316,10 @@ impl State {
         self.apply(node, value);
     }
 
-    ghost use Rattle.txn_syntax.specs.Serial.{outcome_of};
+    ghost use Rattle.txn_runs.specs.Serial.{outcome_of};
     ghost use Rattle.txn_interp.specs.State.{Advances, AdvancesWhere};
     ghost use Rattle.txn_interp.specs.declared.kind.Kind.TheVariants.{Local, Write};
-    ghost use Rattle.txn_syntax.specs.Bounds.{reach, IsProgram};
+    ghost use Rattle.txn_runs.specs.Bounds.{reach, IsProgram};
     ghost use Rattle.txn_code.specs.Flow.{Links};
 
     /// Makes a step that is Local.
