@@ -1,9 +1,9 @@
 // A machine that answers lines.
 ghost use Rattle.std.specs.Prelude.{◌≡◌, ◌≤◌, ◌<◌, ◌+◌, ℕ, List, ◌++◌, length, OnOk};
 
-use step_count::Steps;
 use std::alloc::AllocError;
 use std::sync::ledger::Ledger;
+use step_count::Steps;
 
 /// A machine that answers lines, one after another.
 pub trait Machine {

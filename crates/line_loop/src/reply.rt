@@ -5,8 +5,8 @@ ghost use Rattle.line_loop.specs.Meaning.{IsBreak};
 
 use crate::{Ending, Machine};
 use scc_ports::{Sink, write_all};
-use step_count::Steps;
 use std::sync::ledger::Ledger;
+use step_count::Steps;
 
 /// Answers a line.
 pub fn answer_line<M: Machine, K: Sink, L: Ledger>(

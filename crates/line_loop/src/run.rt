@@ -7,9 +7,9 @@ use crate::reply::{answer_line, answer_too_long, finish};
 use crate::{Ending, Machine};
 use scc_ports::{Sink, Source};
 use scc_text::{LineReader, Next};
-use step_count::Steps;
 use std::alloc::Global;
 use std::sync::ledger::Ledger;
+use step_count::Steps;
 
 /// Answers each line of the source as it is read, and writes the final lines at its end.
 pub fn answer_lines<M: Machine, S: Source, K: Sink, L: Ledger>(

@@ -5,6 +5,8 @@ mod adapters;
 mod memory;
 mod ports;
 mod sure;
+#[cfg(test)]
+mod tests;
 
 pub use adapters::{ReadSource, WriteSink};
 pub use memory::{MemSink, MemSource};
