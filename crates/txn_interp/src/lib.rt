@@ -3,10 +3,9 @@
 
 mod arith;
 mod counters;
-mod kind;
 mod laws;
 mod state;
 
-pub use kind::Kind;
 pub use laws::agreeing;
 pub use state::State;
+pub use txn_runs::Kind;

@@ -1,15 +1,15 @@
 ghost use Rattle.std.specs.Prelude.{◌≡◌, ◌≢◌, ℕ, ◌+◌, ◌<◌, ◌≤◌, ◌^◌, ℤ, List, Option, [], ◌∷◌, ◌++◌, nat_eq, slice_set, length, replicate, pos, None, IfOk, IsTrue, ◌↔◌, slice_index_or};
+ghost use Rattle.txn_code.specs.declared.node.Act.TheVariants.{End as Finish};
 
 use crate::arith;
 use crate::counters::Counters;
-use crate::kind::Kind;
 use access_sets::{ReadLog, WriteSet};
 use std::alloc::{AllocError, Global};
 use std::marker::Model;
 use std::sync::ledger::Ledger;
 use step_count::Steps;
 use txn_code::{Act, Code, Node};
-use txn_runs::{Emits, End, Op, Operand, Outcome, TableRef};
+use txn_runs::{Emits, End, Kind, Op, Operand, Outcome, TableRef};
 
 /// An execution of a program, which can be copied.
 #[derive(Drop)]
@@ -22,6 +22,7 @@ pub struct State {
     writes: WriteSet,
     emits: Emits,
     end: End,
+    done: bool,
 }
 
 impl Model for State {
@@ -30,22 +31,25 @@ impl Model for State {
 
     ghost Value = { Held };
 
-    ghost view = { λ s. record { position = s.position; node = s.node; counters = s.counters; registers = s.registers; log = s.reads; writes = s.writes; emits = s.emits; end = s.end } };
+    ghost view = { λ s. record { position = s.position; node = s.node; counters = s.counters; registers = s.registers; log = s.reads; writes = s.writes; emits = s.emits; end = s.end; done = s.done } };
 
     ghost invariant = { λ s. IsSized s.reads s.writes };
 }
 
 impl State {
-    ghost use Rattle.txn_interp.specs.State.{Held, Carries, Runs, RunsOver, IsSafe};
+    ghost use Rattle.txn_interp.specs.State.{Held, Carries, Runs, RunsOver, IsRun, Tracks, IsSafe};
     ghost use Rattle.txn_runs.specs.Order.{AreBefore};
     ghost use Rattle.txn_interp.specs.Advance.{operand, moved, settle, put_in, fetch_in, turn_by, advance};
     ghost use Rattle.txn_runs.specs.Run.{Tables, register, item_at, own, logged};
     ghost use Rattle.txn_runs.specs.Value.{calc};
     ghost use Rattle.txn_runs.specs.Bounds.{after_register};
 
-    /// Takes the room for this many items, at most.
+    /// Room for a run over this many items: the run of the empty program, which has ended.
     pub fn room(alloc: Global, items: u32) -> Result<State, AllocError>
-        ensures { IfOk result (λ s. s.log.room ≡ items) }
+        requires { items ≤ 1024 }
+        ensures room { IfOk result (λ s. s.log.room ≡ items) }
+        ensures position { IfOk result (λ s. s.position ≡ 0) }
+        ensures empty { IfOk result (λ s. (tables : Tables) → length tables ≡ items → IsRun [] tables s) }
     {
         let reads = ReadLog::with_room(alloc, items)?;
         let writes = WriteSet::with_room(alloc, items)?;
@@ -58,6 +62,7 @@ impl State {
             writes,
             emits: Emits::new(),
             end: End::Going,
+            done: true,
         })
     }
 
@@ -213,7 +218,7 @@ impl State {
         requires safe { IsSafe node.act self.old }
         requires position { self.old.position < 100000 }
         requires before { AreBefore self.old.position self.old.log.reads }
-        requires small { self.old.log.room < 2 ^ 32 }
+        requires small { self.old.log.room ≤ 1024 }
         ensures { self.new ≡ advance node.act node.next node.other value self.old }
     {
         let position = self.position;
@@ -262,14 +267,17 @@ impl State {
         }
     }
 
-    ghost use Rattle.txn_interp.specs.declared.kind.Kind.TheVariants.{Ended, TableRead};
-    ghost use Rattle.txn_interp.specs.Kind.{kind_of, held_kind, HasKind};
+    ghost use Rattle.txn_runs.specs.declared.kind.Kind.TheVariants.{Ended, TableRead};
+    ghost use Rattle.txn_runs.specs.Kind.{kind_of};
+    ghost use Rattle.txn_interp.specs.Kind.{held_kind, HasKind};
+    ghost use Rattle.txn_interp.specs.State.{IsFresh};
+    ghost use Rattle.txn_code.specs.declared.node.Node.{Node};
     ghost use Rattle.txn_runs.specs.Run.{after, stored};
     ghost use Rattle.txn_runs.specs.declared.program.Stmt.{Stmt};
 
     fn kind(&self, act: Act) -> Kind
         requires safe { IsSafe act self.now }
-        requires small { self.now.log.room < 2 ^ 32 }
+        requires small { self.now.log.room ≤ 1024 }
         ensures { result ≡ held_kind self.now act }
     {
         match act {
@@ -295,10 +303,24 @@ impl State {
         }
     }
 
+    /// Whether the state is at the end of its run, by its end and its node.
+    fn at_end(&self, code: &Code) -> bool
+        requires within { self.now.node < length code.now.nodes }
+        ensures { (body : List Stmt) (tables : Tables) → Tracks code.now.nodes body tables self.now → result ≡ has_ended (after body tables self.now.position) }
+    {
+        match self.end {
+            End::Going => is_end(code.node(self.node).act),
+            _ => true,
+        }
+    }
+
     /// What the next step is.
     pub fn next_kind(&self, code: &Code) -> Kind
         requires { Runs code.now.nodes self.now }
-        ensures { HasKind code.now.nodes self.now result }
+        ensures kind { HasKind code.now.nodes self.now result }
+        ensures ended { (result ≡ Ended) ↔ IsTrue self.now.done }
+        ensures read_within { (item : ℕ) → result ≡ TableRead item → item < self.now.log.room }
+        ensures write_within { (item : ℕ) (value : ℤ) → result ≡ Write item value → item < self.now.log.room }
     {
         match self.end {
             End::Going => self.kind(code.node(self.node).act),
@@ -312,15 +334,26 @@ impl State {
         ensures position { self.new.position ≡ self.old.position + 1 }
         ensures same { (body : List Stmt) (tables : Tables) → ((item : ℕ) → HasKind code.now.nodes self.old (TableRead item) → stored tables item ≡ value) → RunsOver code.now.nodes body tables self.old → RunsOver code.now.nodes body tables self.new }
     {
+        self.advance(code, value);
+        self.done = self.at_end(code);
+    }
+
+    fn advance(&mut self, code: &Code, value: i64)
+        requires runs { Runs code.now.nodes self.old }
+        requires goes { (kind : Kind) × HasKind code.now.nodes self.old kind × (kind ≢ Ended) }
+        ensures position { self.new.position ≡ self.old.position + 1 }
+        ensures within { self.new.node < length code.now.nodes }
+        ensures same { (body : List Stmt) (tables : Tables) → ((item : ℕ) → HasKind code.now.nodes self.old (TableRead item) → stored tables item ≡ value) → RunsOver code.now.nodes body tables self.old → Tracks code.now.nodes body tables self.new }
+    {
         let node = code.node(self.node);
         self.apply(node, value);
     }
 
-    ghost use Rattle.txn_runs.specs.Serial.{outcome_of};
+    ghost use Rattle.txn_runs.specs.Serial.{has_ended, outcome_of};
     ghost use Rattle.txn_interp.specs.State.{Advances, AdvancesWhere};
-    ghost use Rattle.txn_interp.specs.declared.kind.Kind.TheVariants.{Local, Write};
+    ghost use Rattle.txn_runs.specs.declared.kind.Kind.TheVariants.{Local, Write};
     ghost use Rattle.txn_runs.specs.Bounds.{reach, IsProgram};
-    ghost use Rattle.txn_code.specs.Flow.{Links};
+    ghost use Rattle.txn_code.specs.Nodes.{nodes_of};
 
     /// Makes a step that is Local.
     pub fn step_local<L: Ledger>(&mut self, code: &Code, steps: &mut Steps<L>)
@@ -328,6 +361,8 @@ impl State {
         requires kind { HasKind code.now.nodes self.old Local }
         ensures runs { Runs code.now.nodes self.new }
         ensures step { Advances code.now.nodes self.old self.new }
+        ensures log { self.new.log ≡ self.old.log }
+        ensures writes { self.new.writes ≡ self.old.writes }
         ensures tick { steps.new ≡ steps.old + 1 }
     {
         steps.tick();
@@ -340,6 +375,8 @@ impl State {
         requires kind { (item : ℕ) × HasKind code.now.nodes self.old (TableRead item) }
         ensures runs { Runs code.now.nodes self.new }
         ensures step { AdvancesWhere code.now.nodes (λ tables. (item : ℕ) → HasKind code.now.nodes self.old (TableRead item) → stored tables item ≡ value) self.old self.new }
+        ensures log { (item : ℕ) → HasKind code.now.nodes self.old (TableRead item) → self.new.log ≡ record self.old.log { reads = self.old.log.reads ++ (self.old.position, item, value) ∷ [] } }
+        ensures writes { self.new.writes ≡ self.old.writes }
         ensures tick { steps.new ≡ steps.old + 1 }
     {
         steps.tick();
@@ -352,6 +389,8 @@ impl State {
         requires kind { (item : ℕ) × (value : ℤ) × HasKind code.now.nodes self.old (Write item value) }
         ensures runs { Runs code.now.nodes self.new }
         ensures step { Advances code.now.nodes self.old self.new }
+        ensures log { self.new.log ≡ self.old.log }
+        ensures writes { (item : ℕ) (value : ℤ) → HasKind code.now.nodes self.old (Write item value) → self.new.writes ≡ slice_set self.old.writes item (Some value) }
         ensures tick { steps.new ≡ steps.old + 1 }
     {
         steps.tick();
@@ -363,8 +402,15 @@ impl State {
         requires { Carries code.now.nodes self.old.log.room }
         ensures room { self.new.log.room ≡ self.old.log.room }
         ensures runs { Runs code.now.nodes self.new }
-        ensures over { (body : List Stmt) (tables : Tables) → Links body code.now.nodes → length tables ≡ self.old.log.room → RunsOver code.now.nodes body tables self.new }
+        ensures over { (body : List Stmt) (tables : Tables) → code.now.nodes ≡ nodes_of body → IsProgram body → length tables ≡ self.old.log.room → RunsOver code.now.nodes body tables self.new }
         ensures position { self.new.position ≡ 0 }
+    {
+        self.rewind();
+        self.done = self.at_end(code);
+    }
+
+    fn rewind(&mut self)
+        ensures fresh { IsFresh self.old.log.room self.new }
     {
         self.position = 0;
         self.node = 0;
@@ -389,6 +435,7 @@ impl State {
         self.writes.copy_from(&other.writes);
         self.emits.copy_from(&other.emits);
         self.end = other.end;
+        self.done = other.done;
     }
 
     /// Makes Local steps until the next one is not Local or so many are made, and answers their number.
@@ -398,7 +445,10 @@ impl State {
         ensures made { self.new.position ≡ self.old.position + result }
         ensures most { result ≤ most }
         ensures stops { result < most → HasKind code.now.nodes self.new Local → ⊥ }
+        ensures local { (body : List Stmt) (tables : Tables) (n : ℕ) → RunsOver code.now.nodes body tables self.old → n < result → kind_of (after body tables (self.old.position + n)) ≡ Local }
         ensures same { (body : List Stmt) (tables : Tables) → RunsOver code.now.nodes body tables self.old → RunsOver code.now.nodes body tables self.new }
+        ensures log { self.new.log ≡ self.old.log }
+        ensures writes { self.new.writes ≡ self.old.writes }
         ensures ticks { steps.new ≡ steps.old + result }
     {
         let mut made = 0;
@@ -412,18 +462,18 @@ impl State {
         made
     }
 
-    pub fn ended(&self, code: &Code) -> bool
-        requires { Runs code.now.nodes self.now }
-        ensures { IsTrue result ↔ HasKind code.now.nodes self.now Ended }
+    /// Whether the run has ended.
+    pub fn ended(&self) -> bool
+        ensures done { result ≡ self.now.done }
+        ensures over { (nodes : List Node) (body : List Stmt) (tables : Tables) → RunsOver nodes body tables self.now → result ≡ has_ended (after body tables self.now.position) }
     {
-        matches!(self.next_kind(code), Kind::Ended)
+        self.done
     }
 
     /// How the run has ended.
-    pub fn outcome(&self, code: &Code) -> Outcome
-        requires runs { Runs code.now.nodes self.now }
-        requires ended { HasKind code.now.nodes self.now Ended }
-        ensures { (body : List Stmt) (tables : Tables) → RunsOver code.now.nodes body tables self.now → result ≡ outcome_of body tables }
+    pub fn outcome(&self) -> Outcome
+        requires { IsTrue self.now.done }
+        ensures { (nodes : List Node) (body : List Stmt) (tables : Tables) → RunsOver nodes body tables self.now → result ≡ outcome_of body tables }
     {
         match self.end {
             End::Going => {
@@ -435,4 +485,10 @@ impl State {
             End::Fault { kind } => Outcome::Fault { kind },
         }
     }
+}
+
+fn is_end(act: Act) -> bool
+    ensures { IsTrue result ↔ (act ≡ Finish) }
+{
+    matches!(act, Act::End)
 }

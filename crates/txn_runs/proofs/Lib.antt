@@ -1,0 +1,4 @@
+pub mod Stepping
+pub mod Reading
+pub mod Ending
+pub mod Rows

@@ -1,0 +1,42 @@
+use crate::{ReadLog, WriteSet};
+use item_table::Table;
+use std::test::Fail;
+
+#[test]
+fn writes_are_a_map_in_ascending_order(rt: HostRuntime) -> Result<(), Fail> {
+    let mut writes = WriteSet::with_room(rt.alloc(), 8)?;
+    writes.set(5, 50);
+    writes.set(2, 20);
+    writes.set(5, 51);
+    assert_eq!(rt; writes.get(5), Some(51));
+    assert_eq!(rt; writes.get(3), None);
+    let mut other = WriteSet::with_room(rt.alloc(), 8)?;
+    other.copy_from(&writes);
+    assert_eq!(rt; other.get(2), Some(20));
+    let mut table = Table::new(rt.alloc(), 8)?;
+    writes.lay_over(&mut table);
+    assert_eq!(rt; table.get(5), 51);
+    assert_eq!(rt; table.get(3), 0);
+    writes.clear();
+    assert_eq!(rt; writes.get(5), None);
+    Ok(())
+}
+
+#[test]
+fn a_log_keeps_what_was_read(rt: HostRuntime) -> Result<(), Fail> {
+    let mut log = ReadLog::with_room(rt.alloc(), 8)?;
+    log.note(3, 5, 50);
+    log.note(7, 2, 20);
+    assert_eq!(rt; log.len(), 2);
+    assert_eq!(rt; log.get(2), Some(20));
+    let mut writes = WriteSet::with_room(rt.alloc(), 8)?;
+    assert_eq!(rt; log.first_in(&writes), None);
+    writes.set(2, 1);
+    assert_eq!(rt; log.first_in(&writes), Some(7));
+    let mut other = ReadLog::with_room(rt.alloc(), 8)?;
+    other.copy_from(&log);
+    assert!(rt; other.same(&log));
+    other.clear();
+    assert!(rt; !other.same(&log));
+    Ok(())
+}
