@@ -1,0 +1,4 @@
+pub mod Peeked
+pub mod SoFar
+pub mod Sound
+pub mod Limits

@@ -1,0 +1,157 @@
+ghost use Rattle.std.specs.Prelude.{◌≡◌, ◌≤◌, [], true, OnOk};
+ghost use Rattle.txn_syntax.specs.Bodies.{Adds};
+ghost use Rattle.txn_syntax.specs.Measures as spec;
+ghost use Rattle.txn_syntax.specs.Meaning.{negative as spec_negative, operand_of, table_of, statement_of, term_fits, plain_fits, test_fits};
+ghost use Rattle.txn_runs.specs.declared.program.Stmt.TheVariants.{If, Loop};
+
+use crate::measure::Measure;
+use crate::place::{Plain, Term, Test};
+use sqlite_items::Items;
+use std::alloc::{AllocError, Global};
+use txn_runs::{Block, Operand, Stmt, TableRef};
+
+/// The statements of a block: what the limits speak of, and where they are kept, the statements themselves.
+#[derive(Drop)]
+pub struct Body {
+    pub measure: Measure,
+    pub stmts: Items<Stmt>,
+}
+
+impl Body {
+    pub fn new(alloc: Global) -> Body
+        ensures measure { result.measure ≡ spec.none }
+        ensures stmts { result.stmts ≡ [] }
+    {
+        Body {
+            measure: Measure::none(),
+            stmts: Items::new(alloc),
+        }
+    }
+
+    /// Adds a statement without blocks.
+    pub fn push_plain(&mut self, plain: Plain, keeps: bool) -> Result<(), AllocError>
+        ensures { OnOk result (Adds keeps self.old self.new (spec.of_plain plain) (plain_fits plain ≡ true) (statement_of plain)) }
+    {
+        self.measure = self.measure.then(Measure::of_plain(plain));
+        if keeps {
+            self.stmts.push(statement_of(plain))?;
+        }
+        Ok(())
+    }
+
+    /// Adds an `if` over two blocks.
+    pub fn push_choice(
+        &mut self,
+        test: Test,
+        first: Body,
+        second: Body,
+        keeps: bool,
+    ) -> Result<(), AllocError>
+        ensures { OnOk result (Adds keeps self.old self.new (spec.of_choice test first.measure second.measure) (test_fits test ≡ true) (If (operand_of test.left) test.cmp (operand_of test.right) (record { stmts = first.stmts }) (record { stmts = second.stmts }))) }
+    {
+        self.measure = self
+            .measure
+            .then(Measure::of_choice(test, first.measure, second.measure));
+        if keeps {
+            self.stmts.push(Stmt::If {
+                left: operand_of(test.left),
+                cmp: test.cmp,
+                right: operand_of(test.right),
+                yes: Block::new(first.stmts),
+                no: Block::new(second.stmts),
+            })?;
+        }
+        Ok(())
+    }
+
+    /// Adds a loop over a block.
+    pub fn push_turns(&mut self, count: u64, body: Body, keeps: bool) -> Result<(), AllocError>
+        ensures { OnOk result (Adds keeps self.old self.new (spec.of_turns count body.measure) (count ≤ 1000) (Loop count (record { stmts = body.stmts }))) }
+    {
+        self.measure = self.measure.then(Measure::of_turns(count, body.measure));
+        if keeps {
+            self.stmts.push(Stmt::Loop {
+                count: small_count(count),
+                body: Block::new(body.stmts),
+            })?;
+        }
+        Ok(())
+    }
+}
+
+// A loop's count, where it is within the limit.
+fn small_count(count: u64) -> u32
+    ensures { count ≤ 1000 → result ≡ count }
+{
+    if count <= 1000 { count as u32 } else { 0 }
+}
+
+// The operand that is written, where it has 64 bits.
+fn operand_of(term: Term) -> Operand
+    ensures { term_fits term ≡ true → result ≡ operand_of term }
+{
+    match term {
+        Term::Register(register) => Operand::Reg(register),
+        Term::Number(number) => Operand::Lit(if number < 1 << 63 { number as i64 } else { 0 }),
+        Term::Minus(number) => Operand::Lit(negative(number)),
+    }
+}
+
+// What is below 0 by a number.
+fn negative(number: u64) -> i64
+    ensures { term_fits (Term.Minus number) ≡ true → result ≡ spec_negative number }
+{
+    if number < 1 << 63 {
+        -(number as i64)
+    } else {
+        i64::MIN
+    }
+}
+
+fn table_of(table: Option<TableRef>) -> TableRef
+    ensures { result ≡ table_of table }
+{
+    table.unwrap_or(TableRef {
+        number: 0,
+        base: 0,
+        size: 0,
+    })
+}
+
+fn statement_of(plain: Plain) -> Stmt
+    ensures { plain_fits plain ≡ true → result ≡ statement_of plain }
+{
+    match plain {
+        Plain::Calc {
+            to,
+            left,
+            op,
+            right,
+        } => Stmt::Calc {
+            to,
+            left: operand_of(left),
+            op,
+            right: operand_of(right),
+        },
+        Plain::Move { to, from } => Stmt::Move {
+            to,
+            from: operand_of(from),
+        },
+        Plain::Read { to, table, at } => Stmt::Read {
+            to,
+            table: table_of(table),
+            at: operand_of(at),
+        },
+        Plain::Write { table, at, from } => Stmt::Write {
+            table: table_of(table),
+            at: operand_of(at),
+            from: operand_of(from),
+        },
+        Plain::Emit { from } => Stmt::Emit {
+            from: operand_of(from),
+        },
+        Plain::Fail { code } => Stmt::Fail {
+            code: operand_of(code),
+        },
+    }
+}

@@ -1,0 +1,190 @@
+ghost use Rattle.std.specs.Prelude.{◌≡◌, OnOk, IfOk, is_some, true, false, MatchOption};
+ghost use Rattle.txn_syntax.specs.Reading.{Blocks, Progress, Opener, Before as BeforeAll, settled, begun, closed, opened, turned, grown, progress_step};
+ghost use Rattle.txn_syntax.specs.Machines.{IsOpening, HasBlocks, IsMachine, FinishesAs};
+
+use crate::body::Body;
+use crate::place::{Item, Place, Step, Test};
+use std::alloc::{AllocError, Global};
+use std::mem;
+use txn_tokens::Token;
+
+/// Where a machine is in the text.
+#[derive(Clone, Copy)]
+pub enum Stage {
+    /// Before the first brace.
+    Before,
+    /// At a place of an item.
+    Within(Place),
+    /// Behind the last brace.
+    Behind,
+}
+
+/// What has opened a block.
+#[derive(Drop)]
+pub enum Opening {
+    Yes(Test),
+    /// An `else`, and the first block.
+    No(Test, Body),
+    Turns(u64),
+}
+
+/// An open block: the statements before it, and what has opened it.
+#[derive(Drop)]
+pub struct Open {
+    pub before: Body,
+    pub opening: Opening,
+}
+
+/// Takes the tokens of a program one after the other.
+#[derive(Drop)]
+pub struct Machine {
+    pub alloc: Global,
+    /// Whether statements are kept.
+    pub keeps: bool,
+    pub stage: Stage,
+    /// The statements of the innermost block so far.
+    pub current: Body,
+    /// The `if` whose first block has just been closed.
+    pub choice: Option<(Test, Body)>,
+    /// The open blocks, the innermost last.
+    pub opens: Vec<Open>,
+}
+
+impl Machine {
+    pub fn new(alloc: Global, keeps: bool) -> Machine
+        ensures machine { IsMachine result BeforeAll }
+        ensures keeps { result.keeps ≡ keeps }
+    {
+        Machine {
+            alloc,
+            keeps,
+            stage: Stage::Before,
+            current: Body::new(alloc),
+            choice: None,
+            opens: Vec::new(alloc),
+        }
+    }
+
+    /// Takes a token, and tells whether a program goes on with it.
+    pub fn take(&mut self, token: Token) -> Result<bool, AllocError>
+        ensures goes { IfOk result (λ goes. (p : Progress) → IsMachine self.old p → MatchOption (progress_step p token) (goes ≡ false) (λ q. (goes ≡ true) × IsMachine self.new q)) }
+        ensures keeps { self.new.keeps ≡ self.old.keeps }
+    {
+        match self.stage {
+            Stage::Before => match token {
+                Token::OpenBlock => {
+                    self.stage = Stage::Within(Place::Start { behind_if: false });
+                    Ok(true)
+                }
+                _ => Ok(false),
+            },
+            Stage::Within(place) => match place.step(token) {
+                Step::Goes(next) => {
+                    self.stage = Stage::Within(next);
+                    Ok(true)
+                }
+                Step::Ends(item) => {
+                    self.grow(item)?;
+                    Ok(true)
+                }
+                Step::Fails => Ok(false),
+            },
+            Stage::Behind => Ok(false),
+        }
+    }
+
+    /// What has been read, where it is a whole program.
+    pub fn finish(self) -> Option<Body>
+        ensures { (p : Progress) → IsMachine self p → FinishesAs self.keeps result p }
+    {
+        match self.stage {
+            Stage::Behind => Some(self.current),
+            Stage::Before | Stage::Within(_) => None,
+        }
+    }
+
+    // An item has been read.
+    fn grow(&mut self, item: Item) -> Result<(), AllocError>
+        ensures grown { OnOk result ((b : Blocks) → HasBlocks self.old b → IsMachine self.new (grown item b)) }
+        ensures keeps { self.new.keeps ≡ self.old.keeps }
+    {
+        match item {
+            Item::Plain(plain) => {
+                self.settle()?;
+                self.current.push_plain(plain, self.keeps)?;
+                self.begin();
+                Ok(())
+            }
+            Item::If(test) => {
+                self.settle()?;
+                self.open(Opening::Yes(test))
+            }
+            Item::Else => match self.choice.take() {
+                Some((test, first)) => self.open(Opening::No(test, first)),
+                None => {
+                    self.begin();
+                    Ok(())
+                }
+            },
+            Item::Loop(count) => {
+                self.settle()?;
+                self.open(Opening::Turns(count))
+            }
+            Item::Close => {
+                self.settle()?;
+                self.close()
+            }
+        }
+    }
+
+    // Before the next item.
+    fn begin(&mut self)
+        ensures begun { (b : Blocks) → HasBlocks self.old b → IsMachine self.new (begun b) }
+        ensures keeps { self.new.keeps ≡ self.old.keeps }
+    {
+        let behind_if = self.choice.is_some();
+        self.stage = Stage::Within(Place::Start { behind_if });
+    }
+
+    // No `else` follows.
+    fn settle(&mut self) -> Result<(), AllocError>
+        ensures settled { OnOk result ((b : Blocks) → HasBlocks self.old b → HasBlocks self.new (record { current = settled b; choice = None; frames = b.frames })) }
+        ensures keeps { self.new.keeps ≡ self.old.keeps }
+    {
+        if let Some((test, first)) = self.choice.take() {
+            let second = Body::new(self.alloc);
+            self.current.push_choice(test, first, second, self.keeps)?;
+        }
+        Ok(())
+    }
+
+    // Opens a block behind the statements so far.
+    fn open(&mut self, opening: Opening) -> Result<(), AllocError>
+        ensures opened { OnOk result ((b : Blocks) (opener : Opener) → HasBlocks self.old b → b.choice ≡ None → IsOpening self.old.keeps opening opener → IsMachine self.new (opened b.current opener b.frames)) }
+        ensures keeps { self.new.keeps ≡ self.old.keeps }
+    {
+        let before = mem::replace(&mut self.current, Body::new(self.alloc));
+        self.opens.push(Open { before, opening })?;
+        self.begin();
+        Ok(())
+    }
+
+    // Closes the innermost block.
+    fn close(&mut self) -> Result<(), AllocError>
+        ensures closed { OnOk result ((b : Blocks) → HasBlocks self.old b → b.choice ≡ None → IsMachine self.new (closed b.frames b.current)) }
+        ensures keeps { self.new.keeps ≡ self.old.keeps }
+    {
+        let Some(Open { before, opening }) = self.opens.pop() else {
+            self.stage = Stage::Behind;
+            return Ok(());
+        };
+        let body = mem::replace(&mut self.current, before);
+        match opening {
+            Opening::Yes(test) => self.choice = Some((test, body)),
+            Opening::No(test, first) => self.current.push_choice(test, first, body, self.keeps)?,
+            Opening::Turns(count) => self.current.push_turns(count, body, self.keeps)?,
+        }
+        self.begin();
+        Ok(())
+    }
+}
