@@ -1,0 +1,4 @@
+pub mod Journal
+pub mod Recorded
+pub mod Lives
+pub mod Reply

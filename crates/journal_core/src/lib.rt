@@ -1,0 +1,13 @@
+//! The journal of a forest: what began, was committed or withdrawn, and in which order.
+#![tactic(auto)]
+
+mod entry;
+mod journal;
+mod laws;
+mod life;
+mod reply;
+
+pub use entry::Entry;
+pub use journal::Journal;
+pub use laws::legal_journals;
+pub use reply::put_reply;

@@ -1,0 +1,4 @@
+pub mod Lengths
+pub mod Events
+pub mod Fields
+pub mod Replies
