@@ -1,0 +1,10 @@
+//! Shadows as the rules see them: what they are for, and whether they may make a step.
+#![tactic(auto)]
+
+mod role;
+mod standing;
+#[cfg(test)]
+mod tests;
+
+pub use role::{Origin, Role, Row};
+pub use standing::{Standing, status};

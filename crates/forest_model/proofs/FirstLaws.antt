@@ -1,0 +1,44 @@
+-- The first of a list by a strict order, one element more at its end.
+use Rattle.std.proofs.Common.{◌≡◌, ℕ, ◌+◌, ◌<◌, Bool, true, false, cond, List, [], ◌∷◌, ◌++◌, length, take, filter, get_or, Option, Some, None, refl, ap, sym, ◌∙◌, true≢false, append-nil}
+use Rattle.std.specs.Cmp.{IsStrictWeakOrder}
+use Rattle.std.proofs.lemmas.Bool.{cases_Bool}
+use Rattle.std.proofs.lemmas.List.Elements.{filter_more}
+use Rattle.forest_model.specs.Choose.{first_by, earlier_of}
+use Rattle.forest_model.proofs.Lists.{either}
+
+-- what comes first of those that o came first of, and x
+abbrev pub first_with : {X : Type 0} → (X → X → Bool) → Option X → X → Option X
+first_with before None x = Some x
+first_with before (Some y) x = Some (earlier_of before y (Some x))
+
+module _ {X : Type 0} (before : X → X → Bool) (order : IsStrictWeakOrder before) where
+  first_assoc : (x b y : X) → earlier_of before x (Some (earlier_of before b (Some y))) ≡ earlier_of before (earlier_of before x (Some b)) (Some y)
+  first_assoc x b y =
+      either (cases_Bool (before y b))
+      (λ yb. either (cases_Bool (before b x))
+      (λ bx.
+      let yx : before y x ≡ true =
+      either (cases_Bool (before y x)) (λ t. t)
+      (λ f. absurd (true≢false (sym yb ∙ order.chain y x b f (order.one_way b x bx))))
+      in
+      rw (yb, bx, yx, yb) refl)
+      (λ bx. rw (yb, bx) refl))
+      (λ yb. either (cases_Bool (before b x))
+      (λ bx. rw (yb, bx, yb) refl)
+      (λ bx. rw (yb, bx, order.chain y b x yb bx) refl))
+
+  pub first_by-push : (xs : List X) (y : X) → first_by before (xs ++ y ∷ []) ≡ first_with before (first_by before xs) y
+  first_by-push [] y = refl
+  first_by-push (x ∷ xs) y = ap (λ o. Some (earlier_of before x o)) (first_by-push xs y) ∙ cases (first_by before xs)
+    where
+      cases : (o : Option X) → let before_x : Option X → Option X = λ p. Some (earlier_of before x p) in before_x (first_with before o y) ≡ first_with before (before_x o) y
+      cases None = refl
+      cases (Some b) = ap Some (first_assoc x b y)
+
+  pub first_by_more : (p : X → Bool) (xs : List X) (i : ℕ) (d : X) → i < length xs
+      → first_by before (filter p (take (i + 1) xs)) ≡ cond (p (get_or xs i d)) (first_with before (first_by before (filter p (take i xs))) (get_or xs i d)) (first_by before (filter p (take i xs)))
+  first_by_more p xs i d lt = rw (filter_more p xs i d lt) (cases (p (get_or xs i d)))
+    where
+      cases : (t : Bool) → first_by before (filter p (take i xs) ++ cond t (get_or xs i d ∷ []) []) ≡ cond t (first_with before (first_by before (filter p (take i xs))) (get_or xs i d)) (first_by before (filter p (take i xs)))
+      cases true = first_by-push (filter p (take i xs)) (get_or xs i d)
+      cases false = rw append-nil refl

@@ -1,0 +1,26 @@
+pub mod Lists
+pub mod RunLaws
+pub mod StartedLaws
+pub mod SettleLaws
+pub mod FirstLaws
+pub mod EventLaws
+pub mod StepLaws
+pub mod PointLaws
+pub mod CommitLaws
+pub mod GiveLaws
+pub mod RestLaws
+pub mod ResetLaws
+pub mod WorldLaws
+pub mod WorkLaws
+pub mod PickLaws
+pub mod HomeLaws
+pub mod AfterLaws
+pub mod StoreLaws
+pub mod IdleLaws
+pub mod DrainLaws
+pub mod Programs
+pub mod OriginLaws
+mod WrongRules
+pub mod Rows
+mod MoreRows
+mod Endings

@@ -1,0 +1,5 @@
+use Rattle.forest_model.proofs.OriginLaws.{kept-found, copy-position, heir-furthest_survivor}
+use Rattle.forest_model.proofs.laws.origins.Goals as goal
+
+pub returns : goal.returns
+returns c = record { kept = kept-found; copies = copy-position; heirs = heir-furthest_survivor }

@@ -1,0 +1,16 @@
+pub mod Runs
+pub mod Choose
+pub mod Point
+pub mod Forest
+pub mod Settle
+pub mod Cut
+pub mod Start
+pub mod Pick
+pub mod Sound
+pub mod Events
+pub mod Jobs
+pub mod World
+pub mod Work
+pub mod Origin
+pub mod Drain
+pub mod Laws

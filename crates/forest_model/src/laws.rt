@@ -1,0 +1,110 @@
+// The laws of the definitions. Each function stands for the clauses of its contract, and does nothing.
+
+ghost use Rattle.std.specs.Prelude.{◌≡◌, ◌≢◌, ◌<◌, ◌≤◌, ◌+◌, ◌^◌, ℕ, suc, List, Some, None, true, false, length, map, IfOk, IfSome, IsTrue, is_ok, is_some, find, nat_le, option_map};
+ghost use Rattle.std.specs.List.{AllByRecursion, list_any};
+ghost use Rattle.txn_runs.specs.Bounds.{steps_max};
+ghost use Rattle.txn_runs.specs.Run.{Tables};
+ghost use Rattle.txn_runs.specs.Serial.{outcome_of, outcomes, last_tables};
+ghost use Rattle.txn_runs.specs.declared.program.Program.{Program};
+ghost use Rattle.block_rule.specs.declared.role.Role.{Role};
+ghost use Rattle.block_rule.specs.declared.role.Role.TheVariants.{Optimistic};
+ghost use Rattle.block_rule.specs.declared.role.Row.{Row};
+ghost use Rattle.journal_core.specs.Journal.{is_live, replies, committed_programs};
+ghost use Rattle.forest_model.specs.Runs.{is_done};
+ghost use Rattle.forest_model.specs.Forest.{Started, Forest, program, length_of, point_of, wanted, find_started};
+ghost use Rattle.forest_model.specs.Choose.{greatest_up_to};
+ghost use Rattle.forest_model.specs.Settle.{stands_for, positions_in};
+ghost use Rattle.forest_model.specs.Cut.{survivors, heir};
+ghost use Rattle.forest_model.specs.Origin.{is_kept, furthest, position_of, placed, placed_of};
+ghost use Rattle.forest_model.specs.Pick.{pick};
+ghost use Rattle.forest_model.specs.Sound.{IsSound, IsIdle, IsHome, is_wanted, last_point, LeavesLists};
+ghost use Rattle.forest_model.specs.Events.{begin, seal, step, commit, withdraw, cut, resumes, others_cut, laid};
+ghost use Rattle.forest_model.specs.Jobs.{is_out_at, take_pick, recall, give};
+ghost use Rattle.forest_model.specs.World.{World, Held, Event, happens, all_happen, opened, IsHeld, IsFit};
+ghost use Rattle.forest_model.specs.Work.{work};
+ghost use Rattle.forest_model.specs.Drain.{run_from, run_idle, drain_from, drain_step, drain_rest, drain, left};
+ghost use Rattle.forest_model.specs.Laws.{Survival, JobsLand, IsReset, StandsAt};
+
+/// Each event keeps soundness, from any sound forest, for every number of shadows and lanes. In a sound forest each
+/// started transaction has its optimistic shadow and at most k shadows in all, and where its optimistic shadow has
+/// run to the end its commit is never refused. The committed outcomes and the present tables are those of the committed
+/// programs, run alone one after another in the order of the journal.
+pub fn soundness()
+    ensures begins { (f : Forest) (p : Program) (deadline : ℕ) → IsSound f → IfOk (begin f p deadline) (λ answer. IsSound answer.1) }
+    ensures seals { (f : Forest) → IsSound f → IsSound (seal f) }
+    ensures steps { (f : Forest) (t : ℕ) (role : Role) → IsSound f → IfOk (step f t role) (λ answer. IsSound answer.1) }
+    ensures commits { (f : Forest) (t : ℕ) → IsSound f → IfOk (commit f t) IsSound }
+    ensures withdraws { (f : Forest) (t : ℕ) → IsSound f → IfOk (withdraw f t) IsSound }
+    ensures takes { (f : Forest) → IsSound f → IsSound (take_pick f) }
+    ensures gives { (f : Forest) (x : Held) → IsSound f → IsHeld f x → IfSome (give f x.job) IsSound }
+    ensures recalls { (f : Forest) → IsSound f → IsSound (recall f) }
+    ensures few { (f : Forest) → IsSound f → 1 ≤ f.k → AllByRecursion (λ r. suc (length r.shadows) ≤ f.k) f.started }
+    ensures serial { (f : Forest) → IsSound f → (replies f.journal ≡ outcomes f.opening (committed_programs f.journal)) × (f.tables ≡ last_tables f.opening (committed_programs f.journal)) }
+    ensures never_refused { (f : Forest) (t : ℕ) (u : Started) → is_live f.journal t ≡ true → find_started f.started t ≡ Some u → u.position ≡ length_of f u → IsTrue (is_ok (commit f t)) }
+{}
+
+/// Jobs: whatever events there are and however many jobs are out, the forest stays sound and each job stays a run of
+/// its transaction's program. A job that is stored has the state of the present run at its position, however many
+/// commits came between; one that is stored in an optimistic shadow changes no other shadow.
+pub fn jobs()
+    ensures event { (w : World) (e : Event) → IsFit w → IsFit (happens w e) }
+    ensures events { (w : World) (events : List Event) → IsFit w → IsFit (all_happen events w) }
+    ensures from_start { (tables : Tables) (k lanes : ℕ) (events : List Event) → IsFit (all_happen events (opened tables k lanes)) }
+    ensures lands { JobsLand }
+    ensures leaves { (f g : Forest) (x : Held) (r : Started) → IsSound f → IsHeld f x → find_started f.started x.job.number ≡ Some r → is_out_at x.job.from r.position r.out ≡ true → give f x.job ≡ Some g → map (λ (y : Started). y.shadows) g.started ≡ map (λ (y : Started). y.shadows) f.started }
+{}
+
+/// What survives a commit is the same run over the new tables. The cut is the point against a transaction that is
+/// done; against any other there is none.
+pub fn survival()
+    ensures survivors { Survival }
+    ensures cut { (f : Forest) (u r : Started) → u.position ≡ length_of f u → is_done (outcome_of (program f u) f.tables) ≡ true → cut f u r ≡ point_of f r u }
+    ensures no_cut { (f : Forest) (u r : Started) → is_done (outcome_of (program f u) f.tables) ≡ false → cut f u r ≡ None }
+{}
+
+/// Settling leaves the shadows that stand for what is wanted after the event.
+pub fn untouched()
+    ensures steps { (f : Forest) (t : ℕ) → IsSound f → IfOk (step f t Optimistic) (λ answer. LeavesLists f.started answer.1) }
+    ensures commits { (f : Forest) (t : ℕ) (u : Started) → IsSound f → find_started f.started t ≡ Some u → IfOk (commit f t) (λ g. LeavesLists (others_cut f u) g) }
+    ensures withdraws { (f : Forest) (t : ℕ) → IsSound f → IfOk (withdraw f t) (λ g. LeavesLists f.started g) }
+{}
+
+/// What a commit costs another transaction in an idle forest. A reader with a shadow for the writer goes back to
+/// exactly its point; any other reader to the last point that it wants, or to its start; who has no point, or
+/// whose writer is not done, goes on.
+pub fn reset()
+    ensures wanted { (f g : Forest) (t v : ℕ) (u r : Started) (p : ℕ) → IsReset f t u v r g → is_done (outcome_of (program f u) f.tables) ≡ true → point_of f r u ≡ Some p → is_wanted (wanted f r) u.number ≡ true → (resumes f u r ≡ Some (v, p)) × StandsAt g v p }
+    ensures others { (f g : Forest) (t v : ℕ) (u r : Started) (p : ℕ) → IsReset f t u v r g → is_done (outcome_of (program f u) f.tables) ≡ true → point_of f r u ≡ Some p → is_wanted (wanted f r) u.number ≡ false → (resumes f u r ≡ Some (v, last_point (wanted f r))) × StandsAt g v (last_point (wanted f r)) }
+    ensures no_point { (f g : Forest) (t v : ℕ) (u r : Started) → IsReset f t u v r g → is_done (outcome_of (program f u) f.tables) ≡ true → point_of f r u ≡ None → (resumes f u r ≡ None) × StandsAt g v r.position }
+    ensures not_done { (f g : Forest) (t v : ℕ) (u r : Started) → IsReset f t u v r g → is_done (outcome_of (program f u) f.tables) ≡ false → (resumes f u r ≡ None) × StandsAt g v r.position }
+{}
+
+/// The step of the pick is never refused, and each step leaves less work, so steps of the pick come to an end. If
+/// nothing was out the forest is idle then. Within the limits the steps are fewer than 2 to the 64th power.
+pub fn idling()
+    ensures accepted { (f : Forest) (row : Row) → IsSound f → pick f ≡ Some row → IsTrue (is_ok (step f row.txn row.role)) }
+    ensures lowers { (f : Forest) (t : ℕ) (role : Role) → IsSound f → IfOk (step f t role) (λ answer. work answer.1 < work f) }
+    ensures home { (f : Forest) (t : ℕ) (role : Role) → IsHome f → IfOk (step f t role) (λ answer. IsHome answer.1) }
+    ensures recalled { (f : Forest) → IsHome (recall f) }
+    ensures unrolled { (f : Forest) → IsSound f → run_idle f ≡ run_from (pick f) f run_idle }
+    ensures sound { (f : Forest) → IsSound f → IsSound (run_idle f).1 }
+    ensures idle { (f : Forest) → IsSound f → IsHome f → IsIdle (run_idle f).1 }
+    ensures bounded { (f : Forest) → IsSound f → (run_idle f).0 + work (run_idle f).1 ≤ work f }
+    ensures fits { (f : Forest) → IsSound f → f.k ≤ 8 → f.lanes ≤ 64 → AllByRecursion (λ r. steps_max (program f r) ≤ 100000) f.started → (run_idle f).0 < 2 ^ 64 }
+{}
+
+/// A drain is commits and steps until nothing is left to do. Afterwards nobody is live.
+pub fn draining()
+    ensures unrolled { (f : Forest) → IsSound f → drain_rest f ≡ drain_from (drain_step f).0 (drain_step f).1 drain_rest }
+    ensures sound { (f : Forest) → IsSound f → IsSound (drain f).1 }
+    ensures empty { (f : Forest) (t : ℕ) → IsSound f → 1 ≤ f.lanes → is_live (drain f).1.journal t ≡ false }
+{}
+
+/// Where the state of a shadow comes from, by roles and positions, is where settling and a cut take it from: what
+/// is kept is what settling finds; a copy stands where the furthest stands that is not past the point; the heir
+/// of a cut is the furthest survivor.
+pub fn origins()
+    ensures kept { (r : Started) (u p : ℕ) → list_any (is_kept u p) (placed_of r) ≡ is_some (find (stands_for (u, p)) r.shadows) }
+    ensures copies { (r : Started) (limit : ℕ) → position_of (furthest (placed_of r) limit) ≡ greatest_up_to limit (positions_in (Some r)) }
+    ensures heirs { (r : Started) (cut : ℕ) → nat_le r.position cut ≡ false → furthest (placed_of r) cut ≡ option_map placed (heir (survivors (Some cut) r.shadows)) }
+{}
