@@ -1,0 +1,3 @@
+pub mod Long
+pub mod Laid
+pub mod FinalLines

@@ -1,0 +1,4 @@
+pub mod Finals
+pub mod Ran
+pub mod Reply
+pub mod Text

@@ -1,0 +1,44 @@
+// The script, from the bytes of a source to those of a sink.
+ghost use Rattle.std.specs.Prelude.{◌≡◌, ◌≤◌, ℕ, List};
+ghost use Rattle.scc_ports.specs.Ports.{Rose};
+ghost use Rattle.scc_script.specs.Ran.{ScriptRan};
+
+use crate::{ScriptState, Status};
+use line_loop::{Ending, answer_lines};
+use scc_ports::{Sink, Source};
+use std::alloc::Global;
+use std::sync::ledger::Ledger;
+use step_count::Steps;
+
+/// Answers each line of the source as it is read, and writes the final lines at its end.
+/// For now a transaction has one shadow, and one is under way at a time.
+pub fn script<S: Source, K: Sink, L: Ledger>(
+    alloc: Global,
+    _k: u32,
+    _lanes: u32,
+    source: &mut S,
+    sink: &mut K,
+    steps: &mut Steps<L>,
+) -> Status
+    requires k { _k ≡ 1 }
+    requires lanes { _lanes ≡ 1 }
+
+    // There are bytes that were read, and each end says what was written and how many steps were made.
+    ensures ran { (read : List ℕ) × ScriptRan result read (S.left source.old) (S.left source.new)
+        (K.written sink.old) (K.written sink.new) steps.old steps.new }
+
+    // A fault comes only where its object has counted one.
+    ensures read_fault { result ≡ Status.ReadFault → Rose (S.faults source.old) (S.faults source.new) }
+    ensures write_fault { result ≡ Status.WriteFault → Rose (K.faults sink.old) (K.faults sink.new) }
+    ensures source_later { S.faults source.old ≤ S.faults source.new }
+    ensures sink_later { K.faults sink.old ≤ K.faults sink.new }
+{
+    let mut machine = ScriptState::new(alloc);
+    match answer_lines(alloc, &mut machine, source, sink, steps) {
+        Ending::Done => Status::Done,
+        Ending::ReadFault => Status::ReadFault,
+        Ending::WriteFault => Status::WriteFault,
+        Ending::OutOfMemory => Status::OutOfMemory,
+        Ending::InputLimit => Status::InputLimit,
+    }
+}
