@@ -15,7 +15,7 @@ use Rattle.txn_names.specs.Refusal.{add_refusal}
 use Rattle.straight_line.specs.StraightLine.{straight_line}
 use Rattle.journal_core.specs.Journal.{began, commits, is_sealed}
 use Rattle.journal_core.specs.Reply.{commit_line}
-use Rattle.shadow_forest.specs.Forest.{ForestView, opened, begun, ran, steps_left, committed, commit_refusal, outcome_in, next_txn}
+use Rattle.shadow_forest.specs.Forest.{ForestView, opened, begun, ran, steps_left, committed, commit_refusal, serial_tables, reply_in, next_txn}
 use Rattle.shadow_forest.specs.declared.refusal.CommitRefusal.{CommitRefusal}
 use Rattle.shadow_forest.specs.declared.refusal.CommitRefusal.TheVariants.{Unknown, NotStarted, NotEnded}
 use Rattle.scc_script.specs.Reply.{row_line, refuse_line, number_line, table_line, begin_line}
@@ -39,10 +39,10 @@ pub record Answer : Type 0 where
 abbrev pub zeros : List Named → Tables
 zeros names = replicate (items_of names) (pos 0)
 
--- the committed tables
+-- the committed tables: those after the committed programs were run alone, one after another, in the order of their commits
 abbrev pub tables_in : List Named → Option ForestView → Tables
 tables_in names None = zeros names
-tables_in names (Some f) = f.tables
+tables_in names (Some f) = serial_tables f
 
 abbrev pub tables_of : Script → Tables
 tables_of s = tables_in s.names s.forest
@@ -51,6 +51,11 @@ tables_of s = tables_in s.names s.forest
 abbrev pub forest_in : List Named → Option ForestView → ForestView
 forest_in names None = opened (zeros names) 1 1
 forest_in names (Some f) = f
+
+-- the number of items of the tables that a script keeps
+abbrev pub items_in : List Named → Option ForestView → ℕ
+items_in names None = items_of names
+items_in names (Some f) = length f.tables
 
 abbrev pub with_forest : Script → ForestView → Script
 with_forest s f = record s { forest = Some f }
@@ -98,8 +103,9 @@ code_of Unknown = 25
 code_of NotStarted = 26
 code_of NotEnded = 30
 
+-- the outcome of the program, run alone after those committed before, or the refusal
 abbrev pub commit_reply : ForestView → ℕ → Option CommitRefusal → List ℕ
-commit_reply f txn None = commit_line txn (outcome_in f txn)
+commit_reply f txn None = commit_line txn (reply_in f txn)
 commit_reply f txn (Some refusal) = refuse_line (code_of refusal)
 
 -- `commit T`

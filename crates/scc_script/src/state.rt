@@ -31,11 +31,11 @@ pub struct ScriptState {
 }
 
 impl Model for ScriptState {
-    ghost use Rattle.std.specs.Prelude.{◌≡◌, length};
+    ghost use Rattle.std.specs.Prelude.{◌≡◌};
     ghost use Rattle.std.specs.Coded.{codes};
     ghost use Rattle.journal_core.specs.contracts.entry.Entry as entry;
     ghost use Rattle.txn_names.specs.Tables.{items_of};
-    ghost use Rattle.scc_script.specs.Text.{Script, tables_in};
+    ghost use Rattle.scc_script.specs.Text.{Script, items_in};
 
     ghost Value = { Script };
 
@@ -43,7 +43,7 @@ impl Model for ScriptState {
 
     ghost view = { λ s. record { names = s.names; forest = s.forest } };
 
-    ghost invariant = { λ s. length (tables_in s.names s.forest) ≡ items_of s.names };
+    ghost invariant = { λ s. items_in s.names s.forest ≡ items_of s.names };
 }
 
 /// The number of a refusal for now, of any line that isn't of a form that is built.

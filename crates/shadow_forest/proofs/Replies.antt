@@ -5,7 +5,9 @@ use Rattle.journal_core.specs.Journal.{has_ended, is_live, committed_of}
 use Rattle.journal_core.proofs.Standing.{unended, committed-new}
 use Rattle.shadow_forest.specs.declared.refusal.CommitRefusal.{CommitRefusal}
 use Rattle.shadow_forest.specs.declared.refusal.CommitRefusal.TheVariants.{Unknown, NotStarted}
-use Rattle.shadow_forest.specs.Forest.{ForestView, outcome_in, committed, commit_refusal, is_started}
+use Rattle.shadow_forest.specs.Forest.{ForestView, program, outcome_in, reply_in, committed, commit_refusal, is_started}
+use Rattle.shadow_forest.specs.Sound.{IsSound}
+use Rattle.txn_runs.specs.Serial.{outcome_of}
 
 not_true : (b : Bool) → not b ≡ true → b ≡ false
 not_true true h = cc
@@ -21,10 +23,12 @@ live_if : (live : Bool) (otherwise : Option CommitRefusal) → (if live then oth
 live_if true otherwise h = refl
 live_if false otherwise h = cc
 
--- an accepted commit records the outcome of the run
-pub outcome_committed : (f new : ForestView) (t : ℕ) → new ≡ committed t f → commit_refusal f t ≡ None → committed_of new.entries t ≡ Some (outcome_in f t)
-outcome_committed f new t is accepted =
-    ap (λ (g : ForestView). committed_of g.entries t) is ∙ committed_line f t (live_if (is_live f.entries t) _ accepted)
+-- an accepted commit records the outcome of the program after the serial run so far
+pub reply_committed : (f new : ForestView) (t : ℕ) → IsSound f → new ≡ committed t f → commit_refusal f t ≡ None → committed_of new.entries t ≡ Some (reply_in f t)
+reply_committed f new t sound is accepted =
+    ap (λ (g : ForestView). committed_of g.entries t) is
+    ∙ (committed_line f t (live_if (is_live f.entries t) _ accepted)
+    ∙ ap (λ d. Some (outcome_of (program f t) d)) sound.serial)
 
 started_if : (live started : Bool) (otherwise : Option CommitRefusal) → (if live then (if started then otherwise else Some NotStarted) else Some Unknown) ≡ None → started ≡ true
 started_if true true otherwise h = refl

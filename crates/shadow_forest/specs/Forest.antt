@@ -6,7 +6,7 @@ use Rattle.txn_runs.specs.declared.program.Program.{Program}
 use Rattle.txn_runs.specs.declared.outcome.Outcome.{Outcome}
 use Rattle.journal_core.specs.declared.entry.Entry.{Entry}
 use Rattle.journal_core.specs.declared.entry.Entry.TheVariants.{Began, Committed}
-use Rattle.journal_core.specs.Journal.{began, is_live, program_of}
+use Rattle.journal_core.specs.Journal.{began, is_live, program_of, tables_after}
 use Rattle.shadow_forest.specs.declared.refusal.CommitRefusal.{CommitRefusal}
 use Rattle.shadow_forest.specs.declared.refusal.CommitRefusal.TheVariants.{Unknown, NotStarted, NotEnded}
 
@@ -35,6 +35,14 @@ length_of f t = run_length (program f t) f.tables
 -- the outcome of its run over the present tables
 abbrev pub outcome_in : ForestView → ℕ → Outcome
 outcome_in f t = outcome_of (program f t) f.tables
+
+-- the tables after the committed programs were run alone, one after another, in the order of their commits
+abbrev pub serial_tables : ForestView → Tables
+serial_tables f = tables_after f.opening f.entries
+
+-- the outcome of its program, run alone after them
+abbrev pub reply_in : ForestView → ℕ → Outcome
+reply_in f t = outcome_of (program f t) (serial_tables f)
 
 -- the number of the next transaction
 abbrev pub next_txn : ForestView → ℕ

@@ -1,6 +1,6 @@
 ghost use Rattle.std.specs.Prelude.{◌≡◌, ◌+◌, ◌≤◌, ◌<◌, ◌↔◌, ℕ, true, false, None, Some, length, option_map, option_copied, IsOk, IsTrue, IfOk, IfErr, OnOk, OnErr};
 ghost use Rattle.txn_runs.specs.Bounds.{reach};
-ghost use Rattle.journal_core.specs.Journal.{began, commits, is_live, is_sealed, committed_of, tables_after};
+ghost use Rattle.journal_core.specs.Journal.{began, commits, is_live, is_sealed, committed_of};
 
 use crate::refusal::{BeginRefusal, CommitRefusal};
 use crate::shadow::{lay_effect, run_to_end};
@@ -49,7 +49,7 @@ impl Model for Forest {
 }
 
 impl Forest {
-    ghost use Rattle.shadow_forest.specs.Forest.{opened, begun, ran, steps_left, committed, next_txn, is_started, commit_refusal, outcome_in, ended as ended_of};
+    ghost use Rattle.shadow_forest.specs.Forest.{opened, begun, ran, steps_left, committed, next_txn, is_started, commit_refusal, serial_tables, reply_in, ended as ended_of};
     ghost use Rattle.shadow_forest.specs.Sound.{IsSound};
     ghost use Rattle.shadow_forest.specs.declared.refusal.BeginRefusal.TheVariants.{Sealed, TooMany};
 
@@ -93,7 +93,7 @@ impl Forest {
     /// The present tables: those after the committed programs were run alone, one after another.
     pub fn table(&self) -> &Table
         ensures value { result.now ≡ self.now.tables }
-        ensures serial { result.now ≡ tables_after self.now.opening self.now.entries }
+        ensures serial { result.now ≡ serial_tables self.now }
     {
         &self.tables
     }
@@ -208,7 +208,7 @@ impl Forest {
         ensures refusal { IfErr result (λ e. commit_refusal self.old txn ≡ Some e) }
         ensures committed { OnOk result (self.new ≡ committed txn self.old) }
         ensures refused { OnErr result (self.new ≡ self.old) }
-        ensures outcome { OnOk result (committed_of self.new.entries txn ≡ Some (outcome_in self.old txn)) }
+        ensures reply { OnOk result (committed_of self.new.entries txn ≡ Some (reply_in self.old txn)) }
         ensures never_refused { IsTrue (ended_of self.old txn) → IsOk result }
     {
         if self.started != Some(txn) {

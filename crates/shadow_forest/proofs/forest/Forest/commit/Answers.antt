@@ -1,7 +1,8 @@
-use Rattle.std.proofs.Common.{◌≡◌, true, refl, sym, ◌∙◌}
+use Rattle.std.proofs.Common.{◌≡◌, true, refl, sym, ◌∙◌, subst}
 use Rattle.shadow_forest.specs.Forest.{ended}
 use Rattle.shadow_forest.proofs.Fields.{is_not_other, done_seen, refusal_seen, accepted_seen}
-use Rattle.shadow_forest.proofs.Replies.{outcome_committed}
+use Rattle.shadow_forest.specs.Sound.{IsSound}
+use Rattle.shadow_forest.proofs.Replies.{reply_committed}
 use Rattle.shadow_forest.proofs.forest.Forest.commit.Goals as goal
 
 pub returns-then-not-ended-clause-accepted : goal.returns-then-not-ended-clause-accepted
@@ -39,11 +40,11 @@ returns-clause-accepted c =
     let stopped : ended c.args.self.now c.args.txn ≡ true = sym done ∙ (sym c.ended.ensures.done ∙ c.if-not-ended.false) in
     (λ fine. accepted_seen i.k i.lanes i.journal i.tables i.code.nodes i.state i.started c.args.txn c.args.self.now c.self.invariant c.self.view_is stopped, λ fine. refl)
 
-pub returns-clause-outcome : goal.returns-clause-outcome
-returns-clause-outcome c =
+pub returns-clause-reply : goal.returns-clause-reply
+returns-clause-reply c =
     let i = c.self.inside in
     let lane = is_not_other i.started c.args.txn (sym c.ne.ensures ∙ c.if-ne.false) in
     let done = done_seen i.k i.lanes i.journal i.tables i.code.nodes i.state i.started c.args.txn c.args.self.now lane c.self.invariant c.self.view_is in
     let stopped : ended c.args.self.now c.args.txn ≡ true = sym done ∙ (sym c.ended.ensures.done ∙ c.if-not-ended.false) in
     let accepted = accepted_seen i.k i.lanes i.journal i.tables i.code.nodes i.state i.started c.args.txn c.args.self.now c.self.invariant c.self.view_is stopped in
-    outcome_committed c.args.self.now c.finish.new.self c.args.txn c.finish.ensures accepted
+    reply_committed c.args.self.now c.finish.new.self c.args.txn (subst IsSound c.self.view_is c.self.invariant.sound) c.finish.ensures accepted
