@@ -1,4 +1,5 @@
 pub mod Finals
 pub mod Ran
 pub mod Reply
+pub mod Runnable
 pub mod Text

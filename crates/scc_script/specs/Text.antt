@@ -12,7 +12,7 @@ use Rattle.txn_runs.specs.declared.program.TableRef.{TableRef}
 use Rattle.txn_runs.specs.declared.program.Stmt.{Stmt}
 use Rattle.txn_names.specs.Tables.{Named, items_of, table_named, added}
 use Rattle.txn_names.specs.Refusal.{add_refusal}
-use Rattle.straight_line.specs.StraightLine.{straight_line}
+use Rattle.txn_syntax.specs.Reads.{read_of}
 use Rattle.journal_core.specs.Journal.{began, commits, is_sealed}
 use Rattle.journal_core.specs.Reply.{commit_line}
 use Rattle.shadow_forest.specs.Forest.{ForestView, opened, begun, ran, steps_left, committed, commit_refusal, serial_tables, reply_in, next_txn}
@@ -20,6 +20,7 @@ use Rattle.shadow_forest.specs.declared.refusal.CommitRefusal.{CommitRefusal}
 use Rattle.shadow_forest.specs.declared.refusal.CommitRefusal.TheVariants.{Unknown, NotStarted, NotEnded}
 use Rattle.scc_script.specs.Reply.{row_line, refuse_line, number_line, table_line, begin_line}
 use Rattle.scc_script.specs.Finals.{final_lines}
+use Rattle.scc_script.specs.Runnable.{runnable}
 
 -- the names of the tables, and the forest once a transaction began
 pub record Script : Type 0 where
@@ -82,7 +83,7 @@ abbrev pub begin_in : Script → ℕ → ForestView → List Stmt → Answer
 begin_in s deadline f body =
     if may_begin f then replied (with_forest s (begun body deadline f)) (begin_line (next_txn f)) else refused s 90
 
--- `begin DEADLINE PROGRAM`, where the program is straight-line, or there is none
+-- `begin DEADLINE PROGRAM`, where the program is one that a script runs, or there is none
 abbrev pub begin_answer : Script → ℕ → Option (List Stmt) → Answer
 begin_answer s deadline None = refused s 90
 begin_answer s deadline (Some body) = begin_in s deadline (forest_in s.names s.forest) body
@@ -130,7 +131,7 @@ text_at line span = slice_range line span.from span.to
 abbrev pub answer_to : Script → List ℕ → Result Command ℕ → Answer
 answer_to s line (Ok Blank) = replied s []
 answer_to s line (Ok (Table name size)) = table_answer s (text_at line name) size
-answer_to s line (Ok (Begin deadline at)) = begin_answer s deadline (straight_line s.names (program_bytes line at))
+answer_to s line (Ok (Begin deadline at)) = begin_answer s deadline (runnable (read_of s.names (program_bytes line at)))
 answer_to s line (Ok Run) = run_answer s s.forest
 answer_to s line (Ok (Commit txn)) = commit_answer s txn s.forest
 answer_to s line (Ok (Dump name)) = dump_answer s (text_at line name) (table_named s.names (text_at line name))

@@ -3,6 +3,7 @@
 
 mod reply;
 mod run;
+mod runnable;
 mod state;
 mod status;
 

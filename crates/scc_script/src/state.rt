@@ -1,7 +1,8 @@
 // The state of a script, and its answers to commands.
 ghost use Rattle.std.specs.Prelude.{◌≡◌, ◌≤◌, ◌<◌, ◌+◌, ℕ, List, ◌++◌, length, OnOk, IfOk, if◌then◌else◌};
 ghost use Rattle.txn_names.specs.Tables.{items_of, table_named};
-ghost use Rattle.straight_line.specs.StraightLine.{straight_line};
+ghost use Rattle.txn_syntax.specs.Reads.{read_of};
+ghost use Rattle.scc_script.specs.Runnable.{runnable};
 ghost use Rattle.txn_runs.specs.Bounds.{reach};
 ghost use Rattle.shadow_forest.specs.Forest.{begun, next_txn, commit_refusal};
 ghost use Rattle.scc_script.specs.Text.{answer, end_lines, opening_script, table_answer, begin_answer, run_answer, commit_answer, dump_answer, may_begin, forest_after, commit_reply, zeros};
@@ -9,6 +10,7 @@ ghost use Rattle.scc_script.specs.Reply.{refuse_line, begin_line};
 ghost use Rattle.scc_script.specs.Finals.{final_lines};
 
 use crate::reply::{put_begin, put_final, put_number_line, put_row, put_table};
+use crate::runnable::read_runnable;
 use item_table::Table;
 use journal_core::put_reply;
 use line_loop::Machine;
@@ -18,9 +20,7 @@ use std::alloc::{AllocError, Global};
 use std::marker::Model;
 use std::sync::ledger::Ledger;
 use step_count::Steps;
-use straight_line::read_straight_line;
-use txn_names::{NameRefusal, Names};
-use txn_runs::Program;
+use txn_syntax::{NameRefusal, Names, Program};
 
 /// A script under way: the names of its tables, and its forest from the first transaction on.
 #[derive(Drop)]
@@ -113,11 +113,11 @@ impl ScriptState {
 
     fn begin(&mut self, deadline: u64, bytes: &[u8], out: &mut Vec<u8>) -> Result<(), AllocError>
         requires { deadline ≤ 1000000000000 }
-        ensures next { OnOk result (self.new ≡ (begin_answer self.old deadline (straight_line self.old.names bytes.now)).next) }
-        ensures reply { OnOk result (out.new.items ≡ out.old.items ++ (begin_answer self.old deadline (straight_line self.old.names bytes.now)).reply) }
-        ensures ticks { (begin_answer self.old deadline (straight_line self.old.names bytes.now)).ticks ≡ 0 }
+        ensures next { OnOk result (self.new ≡ (begin_answer self.old deadline (runnable (read_of self.old.names bytes.now))).next) }
+        ensures reply { OnOk result (out.new.items ≡ out.old.items ++ (begin_answer self.old deadline (runnable (read_of self.old.names bytes.now))).reply) }
+        ensures ticks { (begin_answer self.old deadline (runnable (read_of self.old.names bytes.now))).ticks ≡ 0 }
     {
-        let Some(program) = read_straight_line(self.alloc, &self.names, bytes)? else {
+        let Some(program) = read_runnable(self.alloc, &self.names, bytes)? else {
             return put_refusal(out, UNBUILT);
         };
         match &mut self.forest {

@@ -1,4 +1,0 @@
-pub mod Peeked
-pub mod SoFar
-pub mod Sound
-pub mod Limits
