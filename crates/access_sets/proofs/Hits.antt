@@ -1,5 +1,5 @@
 -- The first read of a written item is the least one.
-use Rattle.std.specs.Prelude.{◌≡◌, ℕ, zero, suc, ◌+◌, ◌<◌, ◌≤◌, ℤ, Bool, true, false, nat_eq, List, [], ◌∷◌, Option, None, Some, is_some, slice_get}
+use Rattle.std.specs.Prelude.{◌≡◌, ℕ, zero, suc, ◌<◌, ◌≤◌, ℤ, true, false, List, [], ◌∷◌, Option, None, Some, is_some, slice_get}
 use Rattle.std.proofs.Common.{refl, sym, ap, ◌∙◌, subst, arith}
 use Rattle.txn_runs.specs.Run.{Read, Writes, own}
 use Rattle.access_sets.specs.Log.{IsFirst, IsLog, IsHit, IsLeastHit, first_by, first_in}

@@ -1,10 +1,10 @@
 -- Lemmas on maps as ascending entries.
-use Rattle.std.specs.Prelude.{◌≡◌, ◌≢◌, ℕ, zero, suc, ◌+◌, ◌<◌, ◌≤◌, ℤ, Bool, true, false, if◌then◌else◌, nat_eq, nat_lt, List, [], ◌∷◌, ◌++◌, Option, None, Some, length, drop, get_or, set, insert, replicate, slice_get, slice_set, slice_index_or, ◌-◌, ◌⊎◌, Result, Ok, Err, IsOk, is_ok}
+use Rattle.std.specs.Prelude.{◌≡◌, ◌≢◌, ℕ, zero, suc, ◌+◌, ◌<◌, ◌≤◌, ℤ, Bool, true, false, if◌then◌else◌, nat_eq, nat_lt, List, [], ◌∷◌, ◌++◌, None, Some, length, drop, get_or, set, insert, replicate, slice_get, slice_set, ◌-◌, ◌⊎◌, Result, Ok, Err, IsOk, is_ok}
 use Rattle.std.proofs.Common.{inl, inr, refl, sym, ap, ◌∙◌, subst, arith, add-one, drop-cons, length-set}
 use Rattle.std.proofs.Math.ListN.{drop_of_length-le}
 use Rattle.txn_runs.specs.Run.{Tables, Writes, own}
 use Rattle.txn_runs.specs.Serial.{over, instead}
-use Rattle.access_sets.specs.Entries.{entries, found, map_of, place_of, AreAscending, AreEntries}
+use Rattle.access_sets.specs.Entries.{entries, found, map_of, place_of, AreAscending}
 
 abbrev pub Entries : Type 0
 Entries = List (ℕ × ℤ)

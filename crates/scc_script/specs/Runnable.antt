@@ -14,7 +14,7 @@ is_sum Add = true
 is_sum Sub = true
 is_sum op = false
 
--- a calculation with `+` or `-`, a move, a read, a write or an emit
+-- a sum or a difference, or what moves, reads, writes or emits a value
 abbrev pub is_plain_layer : Stmt-F Stmt Block → Bool
 is_plain_layer (Stmt-F.Calc to left op right) = is_sum op
 is_plain_layer (Stmt-F.Move to from) = true

@@ -40,7 +40,7 @@ fn are_plain(stmts: &[Stmt]) -> bool
     stmts.iter().all(|stmt| is_plain(stmt))
 }
 
-// A calculation with `+` or `-`, a move, a read, a write or an emit.
+// A sum or a difference, or what moves, reads, writes or emits a value.
 fn is_plain(stmt: &Stmt) -> bool
     ensures { result ≡ spec.is_plain stmt.now }
 {

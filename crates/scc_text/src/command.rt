@@ -17,7 +17,7 @@ pub enum Command {
     Blank,
     Table { name: Span, size: u32 },
     Put { name: Span, index: u32, value: i64 },
-    /// The program goes from this place on to the line's last byte that isn't a blank.
+    /// The program's text begins at this place, and ends with the line's last word.
     Begin { deadline: u64, program_at: usize },
     /// A step of the optimistic shadow, or of the one with this guard.
     Step { txn: u32, guard: Option<u32> },

@@ -9,8 +9,8 @@ use crate::{Command, Dialect};
 
 /// The command that a line spells in a dialect.
 ///
-/// Refusal 12: the first word is no command of the dialect. 13: the number of words is wrong, or a word that must
-/// be a number isn't one. 17: a number is out of its range. The first of these that applies is answered.
+/// Refusal 12: the dialect has no such keyword. 13: there are too many or too few words, or one in a number's place spells
+/// none. 17: a number lies outside its range. Where several apply, the smallest is answered.
 pub fn read_command(dialect: Dialect, line: &[u8]) -> Result<Command, u8>
     requires { length line.now ≤ 8192 }
     ensures command { result ≡ command_of dialect line.now }

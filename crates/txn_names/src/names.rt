@@ -45,9 +45,9 @@ impl Names {
         }
     }
 
-    /// Adds a table behind the others. Refused as `Name` where the name isn't allowed, else as `Twice` where a table has it,
-    /// else as `Full` where 16 tables are there or the items would pass 1,024, else as `OutOfMemory` only for want of memory.
-    /// After a refusal all is as before.
+    /// Adds a table behind the others. The refusals, the first that applies: `Name` for a name that no table may have, `Twice`
+    /// for one that a table has, `Full` for a 17th table or more than 1,024 items together, `OutOfMemory` for want of memory.
+    /// A refusal changes nothing.
     pub fn add(&mut self, name: &[u8], size: u32) -> Result<TableRef, NameRefusal>
         requires some { 1 ≤ size }
         requires most { size ≤ 1024 }

@@ -9,7 +9,7 @@ pub enum NameRefusal {
     /// A table has this name.
     #[error("Twice")]
     Twice,
-    /// 16 tables are there, or the items would pass 1,024.
+    /// It would be the 17th table, or more than 1,024 items together.
     #[error("Full")]
     Full,
     /// Memory is wanting.

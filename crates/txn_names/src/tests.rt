@@ -35,7 +35,7 @@ fn registers(rt: HostRuntime) {
     assert_eq!(rt; register_of(b"r9"), Some(9));
     assert_eq!(rt; register_of(b"r10"), Some(10));
     assert_eq!(rt; register_of(b"r15"), Some(15));
-    let others: [&[u8]; 7] = [b"r", b"r16", b"r00", b"r015", b"r1x", b"s1", b"R1"];
+    let others: [&[u8]; 7] = [b"r", b"r16", b"r00", b"r015", b"r1x", b"s1", b"X7"];
     for other in others {
         assert_eq!(rt; register_of(other), None);
         assert!(rt; !is_register(other));

@@ -1,6 +1,6 @@
 -- The length of a run is the least number of steps after which it has ended.
 use Rattle.std.specs.Prelude.{◌≡◌, ◌≢◌, ℕ, zero, suc, ◌+◌, ◌≤◌, Bool, true, false, if◌then◌else◌, List, [], ◌∷◌, length, replicate, None}
-use Rattle.std.proofs.Common.{refl, sym, ap, ◌∙◌, subst, arith}
+use Rattle.std.proofs.Common.{refl, ap, ◌∙◌, arith}
 use Rattle.txn_runs.specs.declared.program.Stmt.{Stmt}
 use Rattle.txn_runs.specs.declared.outcome.End.{End}
 use Rattle.txn_runs.specs.declared.outcome.End.TheVariants.{Going, Failed, Fault}

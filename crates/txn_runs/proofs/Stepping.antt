@@ -1,5 +1,5 @@
 -- What steps of each kind change.
-use Rattle.std.specs.Prelude.{◌≡◌, ℕ, suc, ◌+◌, ℤ, if◌then◌else◌, ◌||◌, List, [], ◌∷◌, is_some, Option, None, Some, Result, Ok, Err}
+use Rattle.std.specs.Prelude.{◌≡◌, ℕ, ◌+◌, ℤ, if◌then◌else◌, ◌||◌, List, [], ◌∷◌, is_some, Option, None, Some, Result, Ok, Err}
 use Rattle.std.proofs.Common.{refl, add-one}
 use Rattle.txn_runs.specs.declared.outcome.FaultKind.{FaultKind}
 use Rattle.txn_runs.specs.declared.outcome.End.{End}

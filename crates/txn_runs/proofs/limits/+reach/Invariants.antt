@@ -1,4 +1,4 @@
-use Rattle.std.proofs.Common.{◌≡◌, ◌+◌, ◌*◌, ◌≤◌, drop}
+use Rattle.std.proofs.Common.{◌+◌, ◌*◌, ◌≤◌, drop}
 use Rattle.txn_runs.specs.Fold.{of_stmt}
 use Rattle.txn_runs.specs.Bounds.{plus, size_row, size, reach}
 use Rattle.txn_runs.proofs.limits.+reach.Given as goal

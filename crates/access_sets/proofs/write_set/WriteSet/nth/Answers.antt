@@ -1,4 +1,4 @@
-use Rattle.std.proofs.Common.{◌≡◌, ◌∙◌, ◌<◌, arith, sym, ap, subst, length}
+use Rattle.std.proofs.Common.{◌∙◌, ◌<◌, arith, sym, ap, subst, length}
 use Rattle.std.specs.Prelude.{slice_get}
 use Rattle.access_sets.specs.Entries.{entries}
 use Rattle.access_sets.proofs.Maps.{entries_are, get_some}

@@ -1,8 +1,8 @@
-use Rattle.std.proofs.Common.{◌≡◌, ◌≤◌, ◌<◌, ◌∙◌, ℕ, ℤ, arith, sym, ap, subst, length, w64, Some, IsOk}
+use Rattle.std.proofs.Common.{◌≡◌, ◌<◌, ◌∙◌, ℤ, arith, sym, ap, subst, length, w64, Some, IsOk}
 use Rattle.std.proofs.lemmas.Int.{to_z-of_z}
 use Rattle.std.specs.Prelude.{set, insert, slice_get, slice_set}
 use Rattle.access_sets.specs.Entries.{map_of, place_of, AreAscending}
-use Rattle.access_sets.proofs.Maps.{Put, length_map, set_put, insert_put, put_is, place_within, inserted, some_below}
+use Rattle.access_sets.proofs.Maps.{length_map, set_put, insert_put, put_is, place_within, inserted, some_below}
 use Rattle.access_sets.proofs.write_set.WriteSet.set.Goals as goal
 
 pub invariant_of-self : goal.invariant_of-self
