@@ -11,7 +11,7 @@ use Rattle.forest_model.specs.Cut.{survives, after_cut}
 use Rattle.forest_model.specs.Start.{without, fresh, waits, is_prior, numbers, next_to_start, start_some}
 use Rattle.forest_model.specs.Sound.{is_wanted, last_point}
 use Rattle.forest_model.specs.Events.{Unknown, NotEnded, cut, resumes, others_cut, laid, committed, commit}
-use Rattle.forest_model.specs.Laws.{IsReset, StandsAt}
+use Rattle.forest_model.specs.Laws.{IsCommitted, IsReset, StandsAt}
 use Rattle.forest_model.proofs.Lists.{either, filter-passes}
 use Rattle.forest_model.proofs.StartedLaws.{below, found-number, all-first}
 use Rattle.forest_model.proofs.CommitLaws.{after_cut-number}
@@ -112,17 +112,28 @@ taken_back f u r n p h = taken_from (survives (cut f u r) r.position) r.number (
 pub goes_on : (f : Forest) (u r : Started) → resumes f u r ≡ None → (after_cut (cut f u r) r).position ≡ r.position
 goes_on f u r h = rw (stays_where (survives (cut f u r) r.position) r.number (after_cut (cut f u r) r).position h) refl
 
+-- A commit and another transaction.
+
+pub stands-after : (f : Forest) (t : ℕ) (u : Started) (v : ℕ) (r : Started) (g : Forest) → IsCommitted f t u v r g → StandsAt g v (after_cut (cut f u r) r).position
+stands-after f t u v r g h = subst (λ x. StandsAt x v (after_cut (cut f u r) r).position) (commit-is f t u h.writer g h.commits).0 (stands-cut f t u h.writer v r h.reader h.apart)
+
+pub resumed-stands : (f g : Forest) (t v : ℕ) (u r : Started) (p : ℕ) → IsCommitted f t u v r g → resumes f u r ≡ Some (v, p) → StandsAt g v p
+resumed-stands f g t v u r p h e = subst (StandsAt g v) (taken_back f u r v p e) (stands-after f t u v r g h)
+
+pub others-stand : (f g : Forest) (t v : ℕ) (u r : Started) → IsCommitted f t u v r g → resumes f u r ≡ None → StandsAt g v r.position
+others-stand f g t v u r h e = subst (StandsAt g v) (goes_on f u r e) (stands-after f t u v r g h)
+
 -- The idle reset.
 
 module _ (f : Forest) (t : ℕ) (u : Started) (v : ℕ) (r : Started) (g : Forest) (h : IsReset f t u v r g) where
   stands : StandsAt g v (after_cut (cut f u r) r).position
-  stands = subst (λ x. StandsAt x v (after_cut (cut f u r) r).position) (commit-is f t u h.writer g h.commits).0 (stands-cut f t u h.writer v r h.reader h.apart)
+  stands = stands-after f t u v r g h.committed
 
   r_number : r.number ≡ v
-  r_number = found-number f.started v r h.reader
+  r_number = found-number f.started v r h.committed.reader
 
   apart_numbers : u.number ≢ r.number
-  apart_numbers q = h.apart (sym r_number ∙ sym q ∙ found-number f.started t u h.writer)
+  apart_numbers q = h.committed.apart (sym r_number ∙ sym q ∙ found-number f.started t u h.committed.writer)
 
   back : (p : ℕ) → resumes f u r ≡ Some (r.number, p) → (resumes f u r ≡ Some (v, p)) × StandsAt g v p
   back p e = (e ∙ ap (λ n. Some (n, p)) r_number, subst (StandsAt g v) (taken_back f u r r.number p e) stands)
@@ -131,14 +142,14 @@ module _ (f : Forest) (t : ℕ) (u : Started) (v : ℕ) (r : Started) (g : Fores
   on e = (e, subst (StandsAt g v) (goes_on f u r e) stands)
 
   pub goes_to_point : (p : ℕ) → is_done (outcome_of (program f u) f.tables) ≡ true → point_of f r u ≡ Some p → is_wanted (wanted f r) u.number ≡ true → (resumes f u r ≡ Some (v, p)) × StandsAt g v p
-  goes_to_point p done point wanted_u = back p (reset-wanted f h.sound h.idle t u h.writer v r h.reader p done point wanted_u)
+  goes_to_point p done point wanted_u = back p (reset-wanted f h.sound h.idle t u h.committed.writer v r h.committed.reader p done point wanted_u)
 
   pub goes_to_last : (p : ℕ) → is_done (outcome_of (program f u) f.tables) ≡ true → point_of f r u ≡ Some p → is_wanted (wanted f r) u.number ≡ false
       → (resumes f u r ≡ Some (v, last_point (wanted f r))) × StandsAt g v (last_point (wanted f r))
-  goes_to_last p done point unwanted = back (last_point (wanted f r)) (reset-other f h.sound h.idle t u h.writer v r h.reader p apart_numbers done point unwanted)
+  goes_to_last p done point unwanted = back (last_point (wanted f r)) (reset-other f h.sound h.idle t u h.committed.writer v r h.committed.reader p apart_numbers done point unwanted)
 
   pub goes_on_free : is_done (outcome_of (program f u) f.tables) ≡ true → point_of f r u ≡ None → (resumes f u r ≡ None) × StandsAt g v r.position
-  goes_on_free done none = on (reset-none f h.sound h.idle t u h.writer v r h.reader done none)
+  goes_on_free done none = on (reset-none f h.sound h.idle t u h.committed.writer v r h.committed.reader done none)
 
   pub goes_on_undone : is_done (outcome_of (program f u) f.tables) ≡ false → (resumes f u r ≡ None) × StandsAt g v r.position
-  goes_on_undone undone = on (reset-undone f h.sound h.idle t u h.writer v r h.reader undone)
+  goes_on_undone undone = on (reset-undone f h.sound h.idle t u h.committed.writer v r h.committed.reader undone)

@@ -139,7 +139,7 @@ module _ (f : Forest) (h : IsSound f) (deadline : ℕ) (p : Program) (open_yet :
     settled = settled-push f (Began (began f.journal + 1) deadline p) h.right.live h.settled;
   }
 
-  not_started : is_started f.started (began f.journal + 1) ≡ false
+  pub not_started : is_started f.started (began f.journal + 1) ≡ false
   not_started = go f.started (begun_all f h.right.live)
     where
       go : (xs : List Started) → AllByRecursion (λ r. has_begun f.journal r.number ≡ true) xs → is_started xs (began f.journal + 1) ≡ false

@@ -1,4 +1,4 @@
--- Steps of the pick until there is none: they come to an end, the forest is idle then, and their number is bounded.
+-- Steps of the pick as long as there is one: they come to an end, the forest is idle then, and their number is bounded.
 use Rattle.std.proofs.Common.{◌≡◌, ℕ, zero, suc, ◌+◌, ◌-◌, ◌*◌, ◌^◌, ◌<◌, ◌≤◌, true, List, [], ◌∷◌, length, Option, Some, None, Result, Ok, Err, IfOk, is_ok, refl, ap, sym, ◌∙◌, arith, mul-le-mul, suc-mul}
 use Rattle.std.proofs.Math.Nat.{mul-le-mul_left}
 use Rattle.std.specs.List.{AllByRecursion}

@@ -20,7 +20,13 @@ pub mod IdleLaws
 pub mod DrainLaws
 pub mod Programs
 pub mod OriginLaws
+pub mod KeepLaws
+pub mod GateLaws
+pub mod RunEvents
 mod WrongRules
-pub mod Rows
-mod MoreRows
-mod Endings
+mod Leads
+mod WorkedConflicts
+mod WorkedLists
+mod WorkedSurvivor
+mod WorkedReads
+mod WorkedOrders

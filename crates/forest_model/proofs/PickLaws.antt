@@ -101,7 +101,7 @@ rows-accepted f r live found fits apart = (
       (guard_rows-step r.number (deadline_of f.journal r.number) 1 r.shadows (wanted f r) fits apart),
 )
 
-all-flat_map : {X Y : Type 0} (P : Y → Type 0) (g : X → List Y) (xs : List X) → AllByRecursion (λ x. AllByRecursion P (g x)) xs → AllByRecursion P (flat_map g xs)
+pub all-flat_map : {X Y : Type 0} (P : Y → Type 0) (g : X → List Y) (xs : List X) → AllByRecursion (λ x. AllByRecursion P (g x)) xs → AllByRecursion P (flat_map g xs)
 all-flat_map P g [] h = tt
 all-flat_map P g (x ∷ xs) h = all-append P (g x) (flat_map g xs) h.0 (all-flat_map P g xs h.1)
 

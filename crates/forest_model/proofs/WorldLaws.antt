@@ -21,7 +21,8 @@ use Rattle.forest_model.specs.Pick.{is_ready, is_earlier, rows_of, guard_rows, p
 use Rattle.forest_model.specs.Sound.{IsSound}
 use Rattle.forest_model.specs.Events.{Refusal, with_entry, begin, seal, give_shadows, step, step_role, step_guard, with_shadows, commit, commit_ended, others_cut, laid, gone, withdraw}
 use Rattle.forest_model.specs.Jobs.{Job, same_reads, is_out_at, recall, taken, give, given, stored_in, moved}
-use Rattle.forest_model.specs.World.{Held, World, Event, Begin, Seal, Step, Commit, Withdraw, Take, Recall, Local, Give, held_at, gone_on, on_at, unless_refused, unless_refused_too, unless_gone, take_row, give_held, happens, all_happen, opened, IsHeld, IsFit}
+use Rattle.forest_model.specs.Drain.{after_step, after_commit}
+use Rattle.forest_model.specs.World.{Held, World, Event, Begin, Seal, Step, Commit, Withdraw, Take, Recall, Local, Give, held_at, gone_on, on_at, unless_gone, take_row, give_held, happens, all_happen, opened, IsHeld, IsFit}
 use Rattle.forest_model.proofs.RunLaws.{length-over}
 use Rattle.forest_model.proofs.Lists.{either, all-append, all-weaken, all-filter}
 use Rattle.journal_core.proofs.Legal.{begun-live, begun-more, program_of-push}
@@ -156,13 +157,13 @@ pick-begun f row h e =
 with-forest : (w : World) (g : Forest) → IsFit w → IsSound g → Keeps w.forest g → IsFit (record w { forest = g })
 with-forest w g h sound k = record { sound = sound; held = all-weaken (IsHeld w.forest) (IsHeld g) (λ x old. held-keeps w.forest g k x old) w.jobs h.held }
 
-unless_refused-fit : (w : World) (r : Result Forest Refusal) → IsFit w → IfOk r IsSound → IfOk r (Keeps w.forest) → IsFit (unless_refused w r)
-unless_refused-fit w (Ok g) h sound k = with-forest w g h sound k
-unless_refused-fit w (Err refusal) h sound k = h
+after_commit-fit : (w : World) (r : Result Forest Refusal) → IsFit w → IfOk r IsSound → IfOk r (Keeps w.forest) → IsFit (record w { forest = after_commit w.forest r })
+after_commit-fit w (Ok g) h sound k = with-forest w g h sound k
+after_commit-fit w (Err refusal) h sound k = h
 
-unless_refused_too-fit : (w : World) (r : Result (ℕ × Forest) Refusal) → IsFit w → IfOk r (λ a. IsSound a.1) → IfOk r (λ a. Keeps w.forest a.1) → IsFit (unless_refused_too w r)
-unless_refused_too-fit w (Ok a) h sound k = with-forest w a.1 h sound k
-unless_refused_too-fit w (Err refusal) h sound k = h
+after_step-fit : (w : World) (r : Result (ℕ × Forest) Refusal) → IsFit w → IfOk r (λ a. IsSound a.1) → IfOk r (λ a. Keeps w.forest a.1) → IsFit (record w { forest = after_step w.forest r })
+after_step-fit w (Ok a) h sound k = with-forest w a.1 h sound k
+after_step-fit w (Err refusal) h sound k = h
 
 unless_gone-fit : (w : World) (o : Option Forest) → IsFit w → IfSome o IsSound → IfSome o (Keeps w.forest) → IsFit (unless_gone w o)
 unless_gone-fit w None h sound k = h
@@ -205,11 +206,11 @@ held_at-all P (y ∷ ys) zero x all e = let same : y ≡ x = cc in rw same at al
 held_at-all P (y ∷ ys) (suc n) x all e = held_at-all P ys n x all.1 e
 
 pub happens-fit : (w : World) (e : Event) → IsFit w → IsFit (happens w e)
-happens-fit w (Begin p deadline) h = unless_refused_too-fit w (begin w.forest p deadline) h (begin-sound w.forest p deadline h.sound) (begin-keeps w.forest p deadline)
+happens-fit w (Begin p deadline) h = after_step-fit w (begin w.forest p deadline) h (begin-sound w.forest p deadline h.sound) (begin-keeps w.forest p deadline)
 happens-fit w Seal h = with-forest w (seal w.forest) h (seal-sound w.forest h.sound) (seal-keeps w.forest)
-happens-fit w (Step t role) h = unless_refused_too-fit w (step w.forest t role) h (step-sound w.forest t role h.sound) (step-keeps w.forest t role)
-happens-fit w (Commit t) h = unless_refused-fit w (commit w.forest t) h (commit-sound w.forest t h.sound) (commit-keeps w.forest t)
-happens-fit w (Withdraw t) h = unless_refused-fit w (withdraw w.forest t) h (withdraw-sound w.forest t h.sound) (withdraw-keeps w.forest t)
+happens-fit w (Step t role) h = after_step-fit w (step w.forest t role) h (step-sound w.forest t role h.sound) (step-keeps w.forest t role)
+happens-fit w (Commit t) h = after_commit-fit w (commit w.forest t) h (commit-sound w.forest t h.sound) (commit-keeps w.forest t)
+happens-fit w (Withdraw t) h = after_commit-fit w (withdraw w.forest t) h (withdraw-sound w.forest t h.sound) (withdraw-keeps w.forest t)
 happens-fit w Take h = take_row-fit w (pick w.forest) refl h
 happens-fit w Recall h = with-forest w (recall w.forest) h (recall-sound w.forest h.sound) (stays w.forest (recall w.forest) refl refl)
 happens-fit w (Local n) h = record { sound = h.sound; held = on_at-held w.forest n w.jobs h.held }

@@ -1,4 +1,4 @@
--- Steps of the pick until there is none, and commits until nobody is live.
+-- Steps of the pick as long as there is one, and commits until nobody is live.
 use Rattle.std.specs.Prelude.{ℕ, zero, suc, ◌+◌, ◌*◌, if◌then◌else◌, max, List, [], ◌∷◌, Option, Some, None, Result, Ok, Err, map, filter, length}
 use Rattle.txn_runs.specs.Run.{Running, after}
 use Rattle.txn_runs.specs.Bounds.{steps_max}
@@ -18,7 +18,7 @@ use Rattle.forest_model.specs.Work.{work}
 
 -- Steps of the pick.
 
--- the forest after a step that may be refused
+-- the forest after a step, or a begin; a refused one changes nothing
 abbrev pub after_step : Forest → Result (ℕ × Forest) Refusal → Forest
 after_step f (Ok answer) = answer.1
 after_step f (Err refusal) = f
@@ -41,7 +41,7 @@ abbrev pub run_within : ℕ → Forest → ℕ × Forest
 run_within zero f = (0, f)
 run_within (suc n) f = run_from (pick f) f (run_within n)
 
--- steps of the pick until there is none: there are never more than the work that is left
+-- steps of the pick as long as there is one: there are never more than the work that is left
 abbrev pub run_idle : Forest → ℕ × Forest
 run_idle f = run_within (work f) f
 
@@ -51,7 +51,7 @@ run_idle f = run_within (work f) f
 abbrev pub first_ended : Forest → Option ℕ
 first_ended f = first_by (is_prior f.journal) (map (λ r. r.number) (filter (is_ended f) f.started))
 
--- the forest after a commit that may be refused
+-- the forest after a commit, or a withdrawal; a refused one changes nothing
 abbrev pub after_commit : Forest → Result Forest Refusal → Forest
 after_commit f (Ok g) = g
 after_commit f (Err refusal) = f

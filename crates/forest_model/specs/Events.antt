@@ -99,7 +99,7 @@ step f t role = if is_live f.journal t then if_started (find_started f.started t
 
 -- Commit and withdraw.
 
--- the cut of r by u's commit: the least position of a read of r of an item that u changes
+-- the cut of r by u's commit: the position of r's earliest read of an item that u changes
 abbrev pub cut : Forest → Started → Started → Option ℕ
 cut f u r = point (reads_of f r) (effect_of (program f u) f.tables)
 

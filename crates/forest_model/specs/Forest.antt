@@ -1,4 +1,4 @@
--- The forest in numbers: a shadow is its position on the run of its program over the present tables.
+-- The forest in numbers: of a shadow only this is told, how far it has come on its program's run over the tables as they are now.
 use Rattle.std.specs.Prelude.{ℕ, Bool, not, ◌==◌, nat_lt, if◌then◌else◌, List, Option, Some, None, filter_map, find}
 use Rattle.std.specs.List.{list_any}
 use Rattle.txn_runs.specs.Run.{Tables, Read, Writes}
@@ -51,7 +51,7 @@ length_of f r = run_length (program f r) f.tables
 abbrev pub is_ended : Forest → Started → Bool
 is_ended f r = not (nat_lt r.position (length_of f r))
 
--- the point of r against u: the least position of a read of r of an item that u has written
+-- the point of r against u: the position of r's earliest read of an item that u has written
 abbrev pub point_of : Forest → Started → Started → Option ℕ
 point_of f r u = point (reads_of f r) (writes_of f u)
 

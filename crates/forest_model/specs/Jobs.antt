@@ -33,7 +33,7 @@ position_in n [] = 0
 position_in zero (s ∷ ss) = s.position
 position_in (suc n) (s ∷ ss) = position_in n ss
 
--- where the shadow at this place stands; place 0 is the optimistic one
+-- where the shadow at this place stands; the optimistic one has place 0
 abbrev pub position_at : ℕ → Option Started → ℕ
 position_at place None = 0
 position_at zero (Some r) = r.position
@@ -63,7 +63,7 @@ mark_place n [] = []
 mark_place zero (s ∷ ss) = set_out true s ∷ ss
 mark_place (suc n) (s ∷ ss) = s ∷ mark_place n ss
 
--- the shadow at this place is out; place 0 is the optimistic one
+-- the shadow at this place is out; the optimistic one has place 0
 abbrev pub marked : ℕ → Started → Started
 marked zero r = record r { out = true }
 marked (suc n) r = record r { shadows = mark_place n r.shadows }

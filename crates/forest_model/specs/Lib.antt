@@ -14,3 +14,7 @@ pub mod Work
 pub mod Origin
 pub mod Drain
 pub mod Laws
+pub mod Programs
+pub mod Told
+pub mod Worked
+pub mod Wrong

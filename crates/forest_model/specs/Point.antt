@@ -7,7 +7,7 @@ use Rattle.forest_model.specs.Choose.{least, in_order}
 abbrev pub is_changed : Writes → Read → Bool
 is_changed ws r = is_some (own ws r.1)
 
--- the least position of a read of an item that is among the writes, if there is one
+-- the position of the earliest read of an item that is among the writes, if there is one
 abbrev pub point : List Read → Writes → Option ℕ
 point rs ws = least (map (λ (r : Read). r.0) (filter (is_changed ws) rs))
 

@@ -1,5 +1,5 @@
 -- Which forests are sound, and which are idle.
-use Rattle.std.specs.Prelude.{◌≡◌, ◌≤◌, ◌<◌, ℕ, ◌==◌, Bool, true, false, List, [], ◌∷◌, Some, map, length}
+use Rattle.std.specs.Prelude.{◌≡◌, ◌≢◌, ◌≤◌, ◌<◌, ℕ, ◌==◌, Bool, true, false, List, [], ◌∷◌, Some, map, length}
 use Rattle.std.specs.List.{AllByRecursion, AllZip, list_any}
 use Rattle.journal_core.specs.Journal.{IsLegal, began, is_live, tables_after}
 use Rattle.forest_model.specs.Forest.{Shadow, Started, Forest, length_of, wanted, find_started, is_started}
@@ -34,7 +34,7 @@ pub record IsSound (f : Forest) : Type 0 where
   pub right : IsRight f
   pub settled : IsSettled f
 
--- nothing is out, each optimistic shadow has ended, each other one stands at its point
+-- each optimistic shadow has ended, each other one stands at its point, and nothing is out
 pub record IsIdle (f : Forest) : Type 0 where
   pub ended : AllByRecursion (λ r. (r.out ≡ false) × (r.position ≡ length_of f r)) f.started
   pub blocked : AllByRecursion (λ r. AllZip (λ s w. (s.out ≡ false) × (s.position ≡ w.1)) r.shadows (wanted f r)) f.started
@@ -61,3 +61,11 @@ pub record IsHome (f : Forest) : Type 0 where
 abbrev pub LeavesLists : List Started → Forest → Type 0
 LeavesLists before g =
     (v : ℕ) (old new : Started) → find_started before v ≡ Some old → find_started g.started v ≡ Some new → AllZip StandsFor old.shadows (wanted g new) → new.shadows ≡ old.shadows
+
+-- who is started in f is started in g, and stands as in f
+abbrev pub KeepsStarted : Forest → Forest → Type 0
+KeepsStarted f g = (v : ℕ) (r : Started) → find_started f.started v ≡ Some r → find_started g.started v ≡ Some r
+
+-- the same of all but t
+abbrev pub KeepsOthers : ℕ → Forest → Forest → Type 0
+KeepsOthers t f g = (v : ℕ) (r : Started) → v ≢ t → find_started f.started v ≡ Some r → find_started g.started v ≡ Some r

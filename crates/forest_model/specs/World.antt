@@ -1,5 +1,5 @@
 -- Whole histories: events in any order, with any number of jobs out.
-use Rattle.std.specs.Prelude.{◌≡◌, ℕ, zero, suc, true, List, [], ◌∷◌, length, Option, Some, None, Result, Ok, Err, if◌then◌else◌}
+use Rattle.std.specs.Prelude.{◌≡◌, ℕ, zero, suc, true, List, [], ◌∷◌, length, Option, Some, None, if◌then◌else◌}
 use Rattle.std.specs.List.{AllByRecursion}
 use Rattle.txn_runs.specs.Run.{Tables, after}
 use Rattle.txn_runs.specs.declared.program.Program.{Program}
@@ -9,8 +9,9 @@ use Rattle.journal_core.specs.Journal.{has_begun, program_of}
 use Rattle.forest_model.specs.Runs.{is_local}
 use Rattle.forest_model.specs.Forest.{Forest}
 use Rattle.forest_model.specs.Pick.{pick}
-use Rattle.forest_model.specs.Events.{Refusal, begin, seal, step, commit, withdraw}
+use Rattle.forest_model.specs.Events.{begin, seal, step, commit, withdraw}
 use Rattle.forest_model.specs.Jobs.{Job, IsJobOver, job_of, taken, recall, give}
+use Rattle.forest_model.specs.Drain.{after_step, after_commit}
 use Rattle.forest_model.specs.Sound.{IsSound}
 
 -- a job, and the tables that it was taken over, which it does not know
@@ -55,16 +56,6 @@ on_at n [] = []
 on_at zero (x ∷ xs) = gone_on x ∷ xs
 on_at (suc n) (x ∷ xs) = x ∷ on_at n xs
 
--- a refused event changes nothing
-abbrev pub unless_refused : World → Result Forest Refusal → World
-unless_refused w (Ok f) = record w { forest = f }
-unless_refused w (Err refusal) = w
-
--- the same for events that tell a number
-abbrev pub unless_refused_too : World → Result (ℕ × Forest) Refusal → World
-unless_refused_too w (Ok answer) = record w { forest = answer.1 }
-unless_refused_too w (Err refusal) = w
-
 -- a job that no shadow takes changes nothing
 abbrev pub unless_gone : World → Option Forest → World
 unless_gone w (Some f) = record w { forest = f }
@@ -83,13 +74,13 @@ abbrev pub give_held : World → Option Held → World
 give_held w None = w
 give_held w (Some x) = unless_gone w (give w.forest x.job)
 
--- the world after an event
+-- the world after an event; a refused one changes nothing
 abbrev pub happens : World → Event → World
-happens w (Begin p deadline) = unless_refused_too w (begin w.forest p deadline)
+happens w (Begin p deadline) = record w { forest = after_step w.forest (begin w.forest p deadline) }
 happens w Seal = record w { forest = seal w.forest }
-happens w (Step t role) = unless_refused_too w (step w.forest t role)
-happens w (Commit t) = unless_refused w (commit w.forest t)
-happens w (Withdraw t) = unless_refused w (withdraw w.forest t)
+happens w (Step t role) = record w { forest = after_step w.forest (step w.forest t role) }
+happens w (Commit t) = record w { forest = after_commit w.forest (commit w.forest t) }
+happens w (Withdraw t) = record w { forest = after_commit w.forest (withdraw w.forest t) }
 happens w Take = take_row w (pick w.forest)
 happens w Recall = record w { forest = recall w.forest }
 happens w (Local n) = record w { jobs = on_at n w.jobs }

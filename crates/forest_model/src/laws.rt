@@ -1,29 +1,32 @@
 // The laws of the definitions. Each function stands for the clauses of its contract, and does nothing.
 
-ghost use Rattle.std.specs.Prelude.{◌≡◌, ◌≢◌, ◌<◌, ◌≤◌, ◌+◌, ◌^◌, ℕ, suc, List, Some, None, true, false, length, map, IfOk, IfSome, IsTrue, is_ok, is_some, find, nat_le, option_map};
+ghost use Rattle.std.specs.Prelude.{◌≡◌, ◌≢◌, ◌<◌, ◌≤◌, ◌+◌, ◌^◌, ℕ, suc, List, Ok, Some, None, true, false, length, map, IfOk, IfSome, IsTrue, is_ok, is_some, find, nat_le, option_map};
 ghost use Rattle.std.specs.List.{AllByRecursion, list_any};
 ghost use Rattle.txn_runs.specs.Bounds.{steps_max};
 ghost use Rattle.txn_runs.specs.Run.{Tables};
 ghost use Rattle.txn_runs.specs.Serial.{outcome_of, outcomes, last_tables};
 ghost use Rattle.txn_runs.specs.declared.program.Program.{Program};
 ghost use Rattle.block_rule.specs.declared.role.Role.{Role};
-ghost use Rattle.block_rule.specs.declared.role.Role.TheVariants.{Optimistic};
+ghost use Rattle.block_rule.specs.declared.role.Role.TheVariants.{Optimistic, Guard};
 ghost use Rattle.block_rule.specs.declared.role.Row.{Row};
+ghost use Rattle.txn_runs.specs.Kind.{kind_of};
+ghost use Rattle.txn_runs.specs.declared.kind.Kind.TheVariants.{Ended};
+ghost use Rattle.forest_model.specs.declared.did.Did.TheVariants.{Committed, Stepped, Nothing};
 ghost use Rattle.journal_core.specs.Journal.{is_live, replies, committed_programs};
-ghost use Rattle.forest_model.specs.Runs.{is_done};
+ghost use Rattle.forest_model.specs.Runs.{is_done, is_local};
 ghost use Rattle.forest_model.specs.Forest.{Started, Forest, program, length_of, point_of, wanted, find_started};
 ghost use Rattle.forest_model.specs.Choose.{greatest_up_to};
 ghost use Rattle.forest_model.specs.Settle.{stands_for, positions_in};
 ghost use Rattle.forest_model.specs.Cut.{survivors, heir};
 ghost use Rattle.forest_model.specs.Origin.{is_kept, furthest, position_of, placed, placed_of};
 ghost use Rattle.forest_model.specs.Pick.{pick};
-ghost use Rattle.forest_model.specs.Sound.{IsSound, IsIdle, IsHome, is_wanted, last_point, LeavesLists};
+ghost use Rattle.forest_model.specs.Sound.{IsSound, IsIdle, IsHome, is_wanted, last_point, LeavesLists, KeepsStarted, KeepsOthers};
 ghost use Rattle.forest_model.specs.Events.{begin, seal, step, commit, withdraw, cut, resumes, others_cut, laid};
-ghost use Rattle.forest_model.specs.Jobs.{is_out_at, take_pick, recall, give};
-ghost use Rattle.forest_model.specs.World.{World, Held, Event, happens, all_happen, opened, IsHeld, IsFit};
+ghost use Rattle.forest_model.specs.Jobs.{Job, is_out_at, moved, take_pick, recall, give};
+ghost use Rattle.forest_model.specs.World.{World, Held, Event, Recall, happens, all_happen, opened, IsHeld, IsFit};
 ghost use Rattle.forest_model.specs.Work.{work};
-ghost use Rattle.forest_model.specs.Drain.{run_from, run_idle, drain_from, drain_step, drain_rest, drain, left};
-ghost use Rattle.forest_model.specs.Laws.{Survival, JobsLand, IsReset, StandsAt};
+ghost use Rattle.forest_model.specs.Drain.{run_from, run_idle, after_commit, step_row, first_ended, state_of, gate_step, drain_from, drain_step, drain_rest, drain};
+ghost use Rattle.forest_model.specs.Laws.{Survival, JobsLand, IsCommitted, IsReset, StandsAt, is_step, is_step_or_commit};
 
 /// Each event keeps soundness, from any sound forest, for every number of shadows and lanes. In a sound forest each
 /// started transaction has its optimistic shadow and at most k shadows in all, and where its optimistic shadow has
@@ -62,11 +65,24 @@ pub fn survival()
     ensures no_cut { (f : Forest) (u r : Started) → is_done (outcome_of (program f u) f.tables) ≡ false → cut f u r ≡ None }
 {}
 
-/// Settling leaves the shadows that stand for what is wanted after the event.
+/// What an event leaves as it was. Settling leaves the shadows that stand for what is wanted after the event; a begin
+/// leaves all that is started; a guard's step, and a job that is stored in a shadow that waits, leave all other
+/// transactions, and the job moves that one shadow alone.
 pub fn untouched()
+    ensures begins { (f : Forest) (p : Program) (deadline : ℕ) → IsSound f → IfOk (begin f p deadline) (λ answer. KeepsStarted f answer.1) }
     ensures steps { (f : Forest) (t : ℕ) → IsSound f → IfOk (step f t Optimistic) (λ answer. LeavesLists f.started answer.1) }
+    ensures guards { (f : Forest) (t u : ℕ) → IfOk (step f t (Guard u)) (λ answer. KeepsOthers t f answer.1) }
     ensures commits { (f : Forest) (t : ℕ) (u : Started) → IsSound f → find_started f.started t ≡ Some u → IfOk (commit f t) (λ g. LeavesLists (others_cut f u) g) }
     ensures withdraws { (f : Forest) (t : ℕ) → IsSound f → IfOk (withdraw f t) (λ g. LeavesLists f.started g) }
+    ensures gives { (f g : Forest) (job : Job) (r : Started) → find_started f.started job.number ≡ Some r → is_out_at job.from r.position r.out ≡ false → give f job ≡ Some g → (find_started g.started job.number ≡ option_map (λ ss. record r { shadows = ss }) (moved job.from job.reached r.shadows)) × KeepsOthers job.number f g }
+{}
+
+/// Whom a commit takes back: who is resumed stands at the place that is told, and any other one stands where it stood. A
+/// withdrawal takes nobody back.
+pub fn resuming()
+    ensures back { (f g : Forest) (t v : ℕ) (u r : Started) (p : ℕ) → IsCommitted f t u v r g → resumes f u r ≡ Some (v, p) → StandsAt g v p }
+    ensures on { (f g : Forest) (t v : ℕ) (u r : Started) → IsCommitted f t u v r g → resumes f u r ≡ None → StandsAt g v r.position }
+    ensures withdraws { (f g : Forest) (t v : ℕ) (r : Started) → withdraw f t ≡ Ok g → find_started f.started v ≡ Some r → v ≢ t → StandsAt g v r.position }
 {}
 
 /// What a commit costs another transaction in an idle forest. A reader with a shadow for the writer goes back to
@@ -80,7 +96,8 @@ pub fn reset()
 {}
 
 /// The step of the pick is never refused, and each step leaves less work, so steps of the pick come to an end. If
-/// nothing was out the forest is idle then. Within the limits the steps are fewer than 2 to the 64th power.
+/// all were at home the forest is idle then. Such a run is a list of steps, as many as it tells. Within the limits they
+/// are fewer than 2 to the 64th power.
 pub fn idling()
     ensures accepted { (f : Forest) (row : Row) → IsSound f → pick f ≡ Some row → IsTrue (is_ok (step f row.txn row.role)) }
     ensures lowers { (f : Forest) (t : ℕ) (role : Role) → IsSound f → IfOk (step f t role) (λ answer. work answer.1 < work f) }
@@ -90,14 +107,28 @@ pub fn idling()
     ensures sound { (f : Forest) → IsSound f → IsSound (run_idle f).1 }
     ensures idle { (f : Forest) → IsSound f → IsHome f → IsIdle (run_idle f).1 }
     ensures bounded { (f : Forest) → IsSound f → (run_idle f).0 + work (run_idle f).1 ≤ work f }
+    ensures events { (w : World) → (es : List Event) × ((all_happen es w ≡ record w { forest = (run_idle w.forest).1 }) × ((length es ≡ (run_idle w.forest).0) × AllByRecursion (λ e. is_step e ≡ true) es)) }
     ensures fits { (f : Forest) → IsSound f → f.k ≤ 8 → f.lanes ≤ 64 → AllByRecursion (λ r. steps_max (program f r) ≤ 100000) f.started → (run_idle f).0 < 2 ^ 64 }
 {}
 
-/// A drain is commits and steps until nothing is left to do. Afterwards nobody is live.
+/// A drain is a recall and then a list of commits and steps, until nothing is left to do. Afterwards nobody is live.
 pub fn draining()
     ensures unrolled { (f : Forest) → IsSound f → drain_rest f ≡ drain_from (drain_step f).0 (drain_step f).1 drain_rest }
     ensures sound { (f : Forest) → IsSound f → IsSound (drain f).1 }
+    ensures events { (w : World) → (es : List Event) × ((all_happen es (happens w Recall) ≡ record w { forest = (drain w.forest).1 }) × AllByRecursion (λ e. is_step_or_commit e ≡ true) es) }
     ensures empty { (f : Forest) (t : ℕ) → IsSound f → 1 ≤ f.lanes → is_live (drain f).1.journal t ≡ false }
+{}
+
+/// One step under a gate: the commit of the first by priority that has ended, and it is accepted; else the pick's step,
+/// where it reads the tables or writes; else nothing.
+pub fn gating()
+    ensures commits { (f : Forest) (t : ℕ) → first_ended f ≡ Some t → gate_step f ≡ (Committed t, after_commit f (commit f t)) }
+    ensures accepted { (f : Forest) (t : ℕ) → IsSound f → first_ended f ≡ Some t → IsTrue (is_ok (commit f t)) }
+    ensures steps { (f : Forest) (row : Row) → first_ended f ≡ None → pick f ≡ Some row → is_local (state_of f row) ≡ false → gate_step f ≡ (Stepped row.txn row.role, step_row f row) }
+    ensures acts { (f : Forest) (row : Row) → IsSound f → pick f ≡ Some row → kind_of (state_of f row) ≢ Ended }
+    ensures leaves_local { (f : Forest) (row : Row) → first_ended f ≡ None → pick f ≡ Some row → is_local (state_of f row) ≡ true → gate_step f ≡ (Nothing, f) }
+    ensures without_pick { (f : Forest) → first_ended f ≡ None → pick f ≡ None → gate_step f ≡ (Nothing, f) }
+    ensures sound { (f : Forest) → IsSound f → IsSound (gate_step f).1 }
 {}
 
 /// Where the state of a shadow comes from, by roles and positions, is where settling and a cut take it from: what

@@ -3,6 +3,12 @@
 
 mod did;
 mod laws;
+mod worked;
+mod wrong;
 
 pub use did::Did;
-pub use laws::{draining, idling, jobs, origins, reset, soundness, survival, untouched};
+pub use laws::{
+    draining, gating, idling, jobs, origins, reset, resuming, soundness, survival, untouched,
+};
+pub use worked::{worked_conflicts, worked_lists, worked_orders, worked_reads};
+pub use wrong::wrong_rules;

@@ -1,0 +1,10 @@
+pub mod Known
+pub mod Lexing
+pub mod NamesFound
+pub mod Narrow
+pub mod Operands
+pub mod ReadBack
+pub mod Sizes
+pub mod Spelling
+pub mod Statements
+pub mod Texts

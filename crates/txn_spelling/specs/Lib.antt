@@ -1,0 +1,3 @@
+pub mod Canonical
+pub mod Strangers
+pub mod Wide
