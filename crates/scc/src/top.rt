@@ -29,9 +29,10 @@ pub fn scc_top<R: Threads + Wait, S: Source, K: Sink, G: Gate + Sync, L: Ledger>
     ensures script { (k lanes : ℕ) → SpellsScript (map string_bytes words.now) k lanes →
         (read : List ℕ) × ScriptRan result read (S.left source.old) (S.left source.new) (K.written sink.old) (K.written sink.new) steps.old steps.new }
 
-    // Bad words are those that name no mode, and then nothing was done.
+    // Bad words are exactly those that name no mode, and then nothing was done.
     ensures bad_words { result ≡ Status.BadWords → (mode : Mode) → ¬ Spells (map string_bytes words.now) mode }
     ensures good_words { (mode : Mode) → Spells (map string_bytes words.now) mode → result ≢ Status.BadWords }
+    ensures other_words { ((mode : Mode) → ¬ Spells (map string_bytes words.now) mode) → result ≡ Status.BadWords }
     ensures nothing { result ≡ Status.BadWords → (source.new ≡ source.old) × (sink.new ≡ sink.old) × (steps.new ≡ steps.old) }
 
     // A fault comes only where its object has counted one.
@@ -57,6 +58,7 @@ pub fn scc_plain<S: Source, K: Sink, L: Ledger>(
         (read : List ℕ) × ScriptRan result read (S.left source.old) (S.left source.new) (K.written sink.old) (K.written sink.new) steps.old steps.new }
     ensures bad_words { result ≡ Status.BadWords → (mode : Mode) → ¬ Spells (map string_bytes words.now) mode }
     ensures good_words { (mode : Mode) → Spells (map string_bytes words.now) mode → result ≢ Status.BadWords }
+    ensures other_words { ((mode : Mode) → ¬ Spells (map string_bytes words.now) mode) → result ≡ Status.BadWords }
     ensures nothing { result ≡ Status.BadWords → (source.new ≡ source.old) × (sink.new ≡ sink.old) × (steps.new ≡ steps.old) }
     ensures read_fault { result ≡ Status.ReadFault → Rose (S.faults source.old) (S.faults source.new) }
     ensures write_fault { result ≡ Status.WriteFault → Rose (K.faults sink.old) (K.faults sink.new) }
@@ -102,6 +104,7 @@ pub fn top_uncounted<L: Ledger, R: Threads + Wait, S: Source, K: Sink, G: Gate +
         (read : List ℕ) × (steps : ℕ) × ScriptRan result read (S.left source.old) (S.left source.new) (K.written sink.old) (K.written sink.new) 0 steps }
     ensures bad_words { result ≡ Status.BadWords → (mode : Mode) → ¬ Spells (map string_bytes words.now) mode }
     ensures good_words { (mode : Mode) → Spells (map string_bytes words.now) mode → result ≢ Status.BadWords }
+    ensures other_words { ((mode : Mode) → ¬ Spells (map string_bytes words.now) mode) → result ≡ Status.BadWords }
     ensures nothing { result ≡ Status.BadWords → (source.new ≡ source.old) × (sink.new ≡ sink.old) }
     ensures read_fault { result ≡ Status.ReadFault → Rose (S.faults source.old) (S.faults source.new) }
     ensures write_fault { result ≡ Status.WriteFault → Rose (K.faults sink.old) (K.faults sink.new) }
