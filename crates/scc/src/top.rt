@@ -108,6 +108,8 @@ pub fn top_uncounted<L: Ledger, R: Threads + Wait, S: Source, K: Sink, G: Gate +
     ensures nothing { result ≡ Status.BadWords → (source.new ≡ source.old) × (sink.new ≡ sink.old) }
     ensures read_fault { result ≡ Status.ReadFault → Rose (S.faults source.old) (S.faults source.new) }
     ensures write_fault { result ≡ Status.WriteFault → Rose (K.faults sink.old) (K.faults sink.new) }
+    ensures no_bad_input { (line : ℕ) → result ≢ Status.BadInput line }
+    ensures no_audit { (line : ℕ) → result ≢ Status.AuditNo line }
 {
     let mut steps = Steps::<L>::new(blank);
     scc_top(rt, alloc, words, source, sink, gate, &mut steps)
