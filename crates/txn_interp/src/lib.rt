@@ -6,6 +6,6 @@ mod counters;
 mod laws;
 mod state;
 
-pub use laws::agreeing;
+pub use laws::{agreeing, fresh};
 pub use state::State;
 pub use txn_runs::Kind;

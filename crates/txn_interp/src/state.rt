@@ -1,5 +1,6 @@
 ghost use Rattle.std.specs.Prelude.{◌≡◌, ◌≢◌, ℕ, ◌+◌, ◌<◌, ◌≤◌, ◌^◌, ℤ, List, Option, [], ◌∷◌, ◌++◌, nat_eq, slice_set, length, replicate, pos, None, IfOk, IsTrue, ◌↔◌, slice_index_or};
-ghost use Rattle.txn_code.specs.declared.node.Act.TheVariants.{End as Finish};
+ghost use Rattle.txn_runs.specs.declared.outcome.End.TheVariants.{Going};
+ghost use Rattle.txn_interp.specs.State.{is_finish};
 
 use crate::arith;
 use crate::counters::Counters;
@@ -37,6 +38,8 @@ impl Model for State {
 }
 
 impl State {
+    ghost use Rattle.std.specs.Prelude.{slice_get};
+    ghost use Rattle.txn_interp.specs.State.{is_last, fresh_state};
     ghost use Rattle.txn_interp.specs.State.{Held, Carries, Runs, RunsOver, IsRun, Tracks, IsSafe};
     ghost use Rattle.txn_runs.specs.Order.{AreBefore};
     ghost use Rattle.txn_interp.specs.Advance.{operand, moved, settle, put_in, fetch_in, turn_by, advance};
@@ -306,7 +309,8 @@ impl State {
     /// Whether the state is at the end of its run, by its end and its node.
     fn at_end(&self, code: &Code) -> bool
         requires within { self.now.node < length code.now.nodes }
-        ensures { (body : List Stmt) (tables : Tables) → Tracks code.now.nodes body tables self.now → result ≡ has_ended (after body tables self.now.position) }
+        ensures node { self.now.end ≡ Going → result ≡ is_last (slice_get code.now.nodes self.now.node) }
+        ensures tracks { (body : List Stmt) (tables : Tables) → Tracks code.now.nodes body tables self.now → result ≡ has_ended (after body tables self.now.position) }
     {
         match self.end {
             End::Going => is_end(code.node(self.node).act),
@@ -400,6 +404,7 @@ impl State {
     /// The state before the first step of the code's program.
     pub fn reset(&mut self, code: &Code)
         requires { Carries code.now.nodes self.old.log.room }
+        ensures fresh { self.new ≡ fresh_state code.now.nodes self.old.log.room }
         ensures room { self.new.log.room ≡ self.old.log.room }
         ensures runs { Runs code.now.nodes self.new }
         ensures over { (body : List Stmt) (tables : Tables) → code.now.nodes ≡ nodes_of body → IsProgram body → length tables ≡ self.old.log.room → RunsOver code.now.nodes body tables self.new }
@@ -488,7 +493,7 @@ impl State {
 }
 
 fn is_end(act: Act) -> bool
-    ensures { IsTrue result ↔ (act ≡ Finish) }
+    ensures { result ≡ is_finish act }
 {
     matches!(act, Act::End)
 }
