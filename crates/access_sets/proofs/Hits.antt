@@ -2,7 +2,8 @@
 use Rattle.std.specs.Prelude.{◌≡◌, ℕ, zero, suc, ◌<◌, ◌≤◌, ℤ, true, false, List, [], ◌∷◌, Option, None, Some, is_some, slice_get}
 use Rattle.std.proofs.Common.{refl, sym, ap, ◌∙◌, subst, arith}
 use Rattle.txn_runs.specs.Run.{Read, Writes, own}
-use Rattle.access_sets.specs.Log.{IsFirst, IsLog, IsHit, IsLeastHit, first_by, first_in}
+use Rattle.txn_runs.specs.Reads.{IsFirst, IsLog}
+use Rattle.access_sets.specs.Log.{IsHit, IsLeastHit, first_by, first_in}
 
 -- a read behind another one stands at a greater position
 later : (r : Read) (xs : List Read) (k p item : ℕ) (v : ℤ) → IsFirst r xs → slice_get xs k ≡ Some (p, item, v) → r.0 < p

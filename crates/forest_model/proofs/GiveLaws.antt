@@ -6,7 +6,8 @@ use Rattle.std.proofs.lemmas.Bool.{cases_lt, cond_both, and_parts}
 use Rattle.std.proofs.lemmas.Bool.Decides.{Decides-int_eq}
 use Rattle.txn_runs.specs.Run.{Tables, Read, after}
 use Rattle.txn_runs.specs.Serial.{run_length}
-use Rattle.txn_runs.specs.Agree.{Agrees, after_own}
+use Rattle.txn_runs.specs.Reads.{Agrees}
+use Rattle.txn_runs.proofs.Agree.{after_own}
 use Rattle.forest_model.specs.Runs.{reads, writes, is_local}
 use Rattle.forest_model.specs.Point.{Conflict}
 use Rattle.forest_model.specs.Forest.{Shadow, Started, Forest, program, reads_of, length_of, against, wanted, find_started}

@@ -4,7 +4,8 @@ use Rattle.std.specs.List.{AllByRecursion, cons_option}
 use Rattle.std.proofs.lemmas.Bool.{cases_lt, cases_Bool, cond_both}
 use Rattle.txn_runs.specs.Run.{Tables, Read, Writes, own, after}
 use Rattle.txn_runs.specs.Serial.{run_length, over}
-use Rattle.txn_runs.specs.Agree.{Agrees, after_own}
+use Rattle.txn_runs.specs.Reads.{Agrees}
+use Rattle.txn_runs.proofs.Agree.{after_own}
 use Rattle.txn_runs.specs.declared.program.Program.{Program}
 use Rattle.forest_model.specs.Runs.{reads}
 use Rattle.forest_model.specs.Choose.{less_or, least, put_in_order, in_order}

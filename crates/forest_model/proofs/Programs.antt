@@ -2,7 +2,7 @@
 use Rattle.std.proofs.Common.{◌≡◌, ℕ, refl}
 use denote.Hole.Carrier
 use Rattle.txn_runs.specs.Bounds.{steps_max, steps_row, plus}
-use Rattle.txn_runs.specs.Fold.{of_stmt_is}
+use Rattle.txn_runs.proofs.Folds.{of_stmt_is}
 use Rattle.txn_runs.specs.declared.program.Op.TheVariants.{Add}
 use Rattle.txn_runs.specs.declared.program.Operand.TheVariants.{Reg}
 use Rattle.txn_runs.specs.declared.program.Stmt as statement

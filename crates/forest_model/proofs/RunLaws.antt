@@ -11,8 +11,9 @@ use Rattle.txn_runs.specs.declared.program.Stmt.{Stmt}
 use Rattle.txn_runs.specs.Run.{Tables, Read, Writes, Running, own, stored, after}
 use Rattle.txn_runs.specs.Kind.{kind_from, kind_of, Changes}
 use Rattle.txn_runs.specs.Serial.{ended_at, has_ended, run_length, last_state, outcome_by, outcome_of, effect_by, effect_of, instead, over}
-use Rattle.txn_runs.specs.Agree.{Agrees, agrees_front, after_agrees}
-use Rattle.txn_runs.specs.Last.{last_ended, length_stays}
+use Rattle.txn_runs.specs.Reads.{Agrees}
+use Rattle.txn_runs.proofs.Agree.{agrees_front, after_agrees}
+use Rattle.txn_runs.proofs.Last.{last_ended, length_stays}
 use Rattle.txn_runs.proofs.Ending.{length_least}
 use Rattle.txn_runs.proofs.Stepping.{step_changes}
 use Rattle.forest_model.specs.Runs.{reads, writes, is_done, is_local_kind, is_local}

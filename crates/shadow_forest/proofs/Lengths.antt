@@ -9,9 +9,9 @@ use Rattle.txn_runs.specs.declared.outcome.Outcome.{Outcome}
 use Rattle.txn_runs.specs.declared.outcome.Outcome.TheVariants as outcome
 use Rattle.txn_runs.specs.Bounds.{steps_max}
 use Rattle.txn_runs.specs.Serial.{has_ended, first_end, run_length, last_state, outcome_by, outcome_of, effect_by, effect_of, over}
-use Rattle.txn_runs.specs.Last.{last_ended, ended_last}
-use Rattle.txn_runs.specs.Within.{after_within}
-use Rattle.txn_runs.specs.Shape.{after_reach}
+use Rattle.txn_runs.proofs.Last.{last_ended, ended_last}
+use Rattle.txn_runs.proofs.Within.{after_within}
+use Rattle.txn_runs.proofs.Shape.{after_reach}
 use Rattle.txn_code.specs.declared.node.Node.{Node}
 use Rattle.txn_interp.specs.State.{Held, Runs, RunsOver}
 use Rattle.journal_core.proofs.Lists.{either}

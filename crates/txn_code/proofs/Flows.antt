@@ -1,54 +1,20 @@
 -- The nodes of a program are laid as its statements flow.
-use Rattle.std.specs.Prelude.{◌≡◌, ℕ, zero, suc, ◌+◌, ◌≤◌, List, [], ◌∷◌, ◌++◌, length, slice_get, Some}
-use Rattle.std.proofs.Common.{refl, sym, ap, ◌∙◌, subst, arith, append_assoc, length-append, add-one}
+use Rattle.std.specs.Prelude.{◌≡◌, ℕ, zero, suc, ◌+◌, ◌≤◌, List, [], ◌∷◌, ◌++◌}
+use Rattle.std.proofs.Common.{refl, sym, subst, arith, add-one}
 use Rattle.std.proofs.lemmas.List.{append-nil}
-use Rattle.txn_runs.specs.declared.program.Stmt.{Stmt, out-Stmt}
-use Rattle.txn_runs.specs.declared.program.Stmt.TheOpen.{Stmt-F}
-use Rattle.txn_runs.specs.declared.program.Block.{Block}
+use Rattle.txn_runs.specs.declared.program.Stmt.{Stmt}
 use Rattle.txn_runs.specs.Fold.{of_stmt}
 use Rattle.txn_runs.specs.Bounds.{plus, size_row, size}
 use Rattle.txn_code.specs.declared.node.Node.{Node}
-use Rattle.txn_code.specs.declared.node.Act.{Act}
 use Rattle.txn_code.specs.declared.node.Act.TheVariants.{Test, Turn, End}
-use Rattle.txn_code.specs.Flow.{HasNode, leaf_act, Flow, done, plain, choice, turn, Links}
-use Rattle.txn_code.specs.Nodes.{Piece, piece_of, pieces_of, first_at, leaf_piece, choice_piece, loop_piece, then_piece, nodes_of}
-use Rattle.txn_code.proofs.Pieces.{Layer, leaf, choice as two, loop, layer_of, some_size, size_leaf, size_choice, size_loop, piece_leaf, piece_choice, piece_loop, piece_sized, pieces_sized}
-
--- from this place on the nodes have these
-record Part (nodes : List Node) (here : ℕ) (part : List Node) : Type 0 where
-  front : List Node
-  back : List Node
-  is : nodes ≡ front ++ (part ++ back)
-  long : length front ≡ here
-
-part_front : (nodes : List Node) (here : ℕ) (xs ys : List Node) → Part nodes here (xs ++ ys) → Part nodes here xs
-part_front nodes here xs ys p = record { front = p.front; back = ys ++ p.back; is = p.is ∙ ap (λ n. p.front ++ n) (append_assoc xs ys p.back); long = p.long }
-
-part_back : (nodes : List Node) (here there : ℕ) (xs ys : List Node) → there ≡ here + length xs → Part nodes here (xs ++ ys) → Part nodes there ys
-part_back nodes here there xs ys at p =
-    record {
-      front = p.front ++ xs;
-      back = p.back;
-      is = p.is ∙ ap (λ n. p.front ++ n) (append_assoc xs ys p.back) ∙ sym (append_assoc p.front xs (ys ++ p.back));
-      long = omega (arith, length-append p.front xs, p.long, at);
-    }
-
-node_after : (front more : List Node) (node : Node) → slice_get (front ++ (node ∷ more)) (length front) ≡ Some node
-node_after [] more node = refl
-node_after (x ∷ front) more node = node_after front more node
-
-part_node : (nodes : List Node) (here : ℕ) (act : Act) (next other : ℕ) (more : List Node) → Part nodes here (record { act = act; next = next; other = other } ∷ more) → HasNode nodes here act next other
-part_node nodes here act next other more p =
-    let node : Node = record { act = act; next = next; other = other } in
-    record { is = ap (λ n. slice_get n here) p.is ∙ subst (λ n. slice_get (p.front ++ (node ∷ (more ++ p.back))) n ≡ Some node) p.long (node_after p.front (more ++ p.back) node) }
+use Rattle.txn_code.specs.Flow.{Flow, done, plain, choice, turn, Links}
+use Rattle.txn_code.specs.Nodes.{piece_of, pieces_of, first_at, nodes_of}
+use Rattle.txn_code.proofs.Parts.{Part, part_front, part_back, part_node, first_node}
+use Rattle.txn_code.proofs.Pieces.{Layer, leaf, choice as two, loop, layer_of, some_size, size_choice, size_loop, piece_leaf, piece_choice, piece_loop, piece_sized, pieces_sized}
 
 -- where a piece is laid, its statements flow
 abbrev Flows : ℕ → Type 0
 Flows n = (nodes : List Node) (xs : List Stmt) (here next depth : ℕ) → size xs ≤ n → Part nodes here ((pieces_of xs).nodes here next depth) → Flow nodes (first_at (pieces_of xs).size here next) xs next depth
-
-first_node : (n here next : ℕ) → 1 ≤ n → first_at n here next ≡ here
-first_node zero here next le = absurd (omega arith)
-first_node (suc n) here next le = refl
 
 -- a statement's piece, and then what its rest gives
 stmt_flow : (n : ℕ) → Flows n → (nodes : List Node) (s : Stmt) (rest : List Stmt) (here to next depth : ℕ) → of_stmt size_row plus s ≤ suc n → Layer s → Part nodes here ((piece_of s).nodes here to depth) → Flow nodes to rest next depth → Flow nodes here (s ∷ rest) next depth

@@ -1,5 +1,5 @@
 -- The equations of pieces.
-use Rattle.std.specs.Prelude.{◌≡◌, ℕ, zero, suc, ◌+◌, ◌*◌, ◌<◌, ◌≤◌, List, [], ◌∷◌, ◌++◌, length, map, drop, get_or, Option, None, Some}
+use Rattle.std.specs.Prelude.{◌≡◌, ℕ, zero, suc, ◌+◌, ◌<◌, ◌≤◌, List, [], ◌∷◌, length, map, drop, get_or, Some}
 use Rattle.std.proofs.Common.{refl, sym, ap, ◌∙◌, subst, arith, length-append, add-one, drop-cons}
 use Rattle.txn_runs.specs.declared.program.Stmt.{Stmt, out-Stmt}
 use Rattle.txn_runs.specs.declared.program.Stmt.TheOpen.{Stmt-F}
@@ -7,11 +7,11 @@ use Rattle.txn_runs.specs.declared.program.Stmt.TheFolds.{fold-Block, fold_out-S
 use Rattle.txn_runs.specs.declared.program.Block.{Block}
 use Rattle.txn_runs.specs.declared.program.Operand.{Operand}
 use Rattle.txn_runs.specs.declared.program.Cmp.{Cmp}
-use Rattle.txn_runs.specs.Fold.{of_stmt, of_list, of_layer, of_block_is, of_stmt_is}
+use Rattle.txn_runs.specs.Fold.{of_stmt, of_layer}
+use Rattle.txn_runs.proofs.Folds.{of_block_is, of_stmt_is}
 use Rattle.txn_runs.specs.Bounds.{plus, size_row, size}
-use Rattle.txn_code.specs.declared.node.Node.{Node}
 use Rattle.txn_code.specs.declared.node.Act.{Act}
-use Rattle.txn_code.specs.declared.node.Act.TheVariants.{Calc, Move, Read, Write, Test, Turn, Emit, Fail}
+use Rattle.txn_code.specs.declared.node.Act.TheVariants.{Calc, Move, Read, Write, Test, Emit, Fail}
 use Rattle.txn_code.specs.Flow.{leaf_act}
 use Rattle.txn_code.specs.Nodes.{Piece, stmt_row, block_row, piece_of, pieces_of, first_at, joined_pieces, leaf_piece, choice_piece, loop_piece, then_piece}
 

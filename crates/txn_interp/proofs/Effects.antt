@@ -1,5 +1,5 @@
 -- What a step changes of a state.
-use Rattle.std.specs.Prelude.{◌≡◌, ◌≢◌, ℕ, ◌+◌, ◌<◌, ◌≤◌, ℤ, true, List, [], ◌∷◌, ◌++◌, length, slice_set, if◌then◌else◌, ◌||◌, is_some, Option, None, Some, Result, Ok, Err}
+use Rattle.std.specs.Prelude.{◌≡◌, ◌≢◌, ℕ, ◌+◌, ◌<◌, ℤ, true, List, [], ◌∷◌, ◌++◌, slice_set, if◌then◌else◌, ◌||◌, is_some, Option, None, Some, Result, Ok, Err}
 use Rattle.std.proofs.Common.{refl, sym, ap, ◌∙◌, subst, arith}
 use Rattle.txn_runs.specs.declared.outcome.FaultKind.{FaultKind}
 use Rattle.txn_runs.specs.declared.outcome.End.{End}
@@ -11,13 +11,14 @@ use Rattle.txn_runs.specs.declared.program.Stmt.TheOpen.{Stmt-F}
 use Rattle.txn_runs.specs.declared.program.Block.{Block}
 use Rattle.txn_runs.specs.Run.{Tables, Running, value_of, item_at, own, logged, stored, after}
 use Rattle.txn_runs.specs.Kind.{kind_of, kind_from, kind_act, kind_read, kind_write, Changes}
-use Rattle.txn_runs.specs.Fold.{of_layer, of_list, of_stmt_is}
-use Rattle.txn_runs.specs.Bounds.{greater, reach_row, reach}
-use Rattle.txn_runs.specs.Shape.{after_reach}
+use Rattle.txn_runs.specs.Fold.{of_layer, of_list}
+use Rattle.txn_runs.proofs.Folds.{of_stmt_is}
+use Rattle.txn_runs.specs.Bounds.{greater, reach_row}
+use Rattle.txn_runs.proofs.Shape.{after_reach}
 use Rattle.txn_runs.proofs.Stepping.{after_changes}
 use Rattle.txn_code.specs.declared.node.Node.{Node}
 use Rattle.access_sets.specs.Log.{Log}
-use Rattle.txn_interp.specs.State.{Held, running, RunsOver, Runs}
+use Rattle.txn_interp.specs.State.{Held, RunsOver, Runs}
 use Rattle.txn_interp.specs.Kind.{HasKind}
 use Rattle.txn_interp.proofs.Found.{found_runs, read_inside, inside, one_item, ended_kind, kind_ended}
 

@@ -34,14 +34,13 @@ impl Model for State {
 
     ghost view = { λ s. record { position = s.position; node = s.node; counters = s.counters; registers = s.registers; log = s.reads; writes = s.writes; emits = s.emits; end = s.end; done = s.done } };
 
-    ghost invariant = { λ s. IsSized s.reads s.writes };
+    ghost invariant = { λ s. IsSized s.reads s.writes s.emits };
 }
 
 impl State {
     ghost use Rattle.std.specs.Prelude.{slice_get};
-    ghost use Rattle.txn_interp.specs.State.{is_last, fresh_state};
-    ghost use Rattle.txn_interp.specs.State.{Held, Carries, Runs, RunsOver, IsRun, Tracks, IsSafe};
-    ghost use Rattle.txn_runs.specs.Order.{AreBefore};
+    ghost use Rattle.txn_interp.specs.State.{is_last, fresh_state, Held, Carries, Runs, RunsOver, IsRun, Tracks, IsSafe};
+    ghost use Rattle.txn_runs.specs.Reads.{AreBefore};
     ghost use Rattle.txn_interp.specs.Advance.{operand, moved, settle, put_in, fetch_in, turn_by, advance};
     ghost use Rattle.txn_runs.specs.Run.{Tables, register, item_at, own, logged};
     ghost use Rattle.txn_runs.specs.Value.{calc};
@@ -87,8 +86,10 @@ impl State {
         &self.writes
     }
 
+    /// What the run has emitted, at most 64 numbers.
     pub fn emits(&self) -> &Emits
-        ensures { result.now ≡ self.now.emits }
+        ensures list { result.now ≡ self.now.emits }
+        ensures most { length self.now.emits ≤ 64 }
     {
         &self.emits
     }

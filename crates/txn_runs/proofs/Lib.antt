@@ -2,3 +2,9 @@ pub mod Stepping
 pub mod Reading
 pub mod Ending
 pub mod Rows
+pub mod Agree
+pub mod Order
+pub mod Within
+pub mod Shape
+pub mod Last
+pub mod Folds

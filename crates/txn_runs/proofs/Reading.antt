@@ -12,9 +12,9 @@ use Rattle.txn_runs.specs.declared.program.Stmt.TheOpen.{Stmt-F}
 use Rattle.txn_runs.specs.declared.program.Block.{Block}
 use Rattle.txn_runs.specs.Run.{Tables, Read, Writes, Running, value_of, item_at, own, logged, stored, step, after}
 use Rattle.txn_runs.specs.Kind.{kind_of, kind_from, kind_act, kind_read, kind_write, Changes}
-use Rattle.txn_runs.specs.Order.{AreBefore, after_before}
-use Rattle.txn_runs.specs.Reads.{IsFirst, IsLog, AgreeOn}
-use Rattle.txn_runs.specs.Agree.{Agrees, after_own, after_agrees}
+use Rattle.txn_runs.specs.Reads.{AreBefore, IsFirst, IsLog, AgreeOn, Agrees}
+use Rattle.txn_runs.proofs.Order.{after_before}
+use Rattle.txn_runs.proofs.Agree.{after_own, after_agrees}
 use Rattle.txn_runs.proofs.Stepping.{step_changes, after_changes}
 
 -- a table read is of an item that was neither written nor read

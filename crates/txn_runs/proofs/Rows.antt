@@ -9,7 +9,8 @@ use Rattle.txn_runs.specs.declared.program.Block.{Block}
 use Rattle.txn_runs.specs.declared.program.Operand.{Operand}
 use Rattle.txn_runs.specs.declared.program.TableRef.{TableRef}
 use Rattle.txn_runs.specs.declared.program.Cmp.{Cmp}
-use Rattle.txn_runs.specs.Fold.{of_stmt, of_if_is, of_loop_is, of_drop_is, block_row}
+use Rattle.txn_runs.specs.Fold.{of_stmt, block_row}
+use Rattle.txn_runs.proofs.Folds.{of_if_is, of_loop_is, of_drop_is}
 use Rattle.txn_runs.specs.Bounds.{plus, greater, steps_row, emits_row, size_row, reach_row, steps_max, emits_max, size, reach}
 
 pub steps_if : (left right : Operand) (cmp : Cmp) (a b : Block) → of_stmt steps_row plus (If left cmp right a b) ≡ 1 + max (steps_max a.stmts) (steps_max b.stmts)

@@ -15,3 +15,13 @@ IsLog (r ∷ reads) = IsFirst r reads × IsLog reads
 -- two tables have the same values at the items of these reads
 abbrev pub AgreeOn : List Read → Tables → Tables → Type 0
 AgreeOn reads d e = (place : ℕ) (r : Read) → slice_get reads place ≡ Some r → stored e r.1 ≡ stored d r.1
+
+-- the tables have what was read
+abbrev pub Agrees : Tables → List Read → Type 0
+Agrees tables [] = Unit {0}
+Agrees tables (r ∷ reads) = (stored tables r.1 ≡ r.2) × Agrees tables reads
+
+-- all these reads stand before a position
+abbrev pub AreBefore : ℕ → List Read → Type 0
+AreBefore position [] = Unit {0}
+AreBefore position (r ∷ reads) = (r.0 < position) × AreBefore position reads

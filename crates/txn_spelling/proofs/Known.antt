@@ -8,7 +8,7 @@ use Rattle.std.specs.Str.{bytes_eq}
 use Rattle.std.proofs.lemmas.Bool.{eq-eqb}
 use Rattle.txn_runs.specs.declared.program.TableRef.{TableRef}
 use Rattle.txn_runs.specs.declared.program.Stmt.{Stmt}
-use Rattle.txn_runs.specs.Fold.{of_if_is, of_loop_is}
+use Rattle.txn_runs.proofs.Folds.{of_if_is, of_loop_is}
 use Rattle.txn_runs.specs.Bounds.{plus}
 use Rattle.txn_names.specs.Word.{is_word_byte, is_reserved, register_of}
 use Rattle.txn_names.specs.Tables.{Named, items_of, table_from, table_named}

@@ -3,7 +3,7 @@ use Rattle.std.proofs.Common.{◌≡◌, ℕ, zero, suc, ◌+◌, ◌&&◌, ◌^
 use Rattle.std.specs.Prelude.{not}
 use Rattle.std.proofs.lemmas.Bool.{leb-true, lt-ltb}
 use Rattle.txn_runs.specs.declared.program.Stmt.{Stmt}
-use Rattle.txn_runs.specs.Fold.{of_if_is, of_loop_is}
+use Rattle.txn_runs.proofs.Folds.{of_if_is, of_loop_is}
 use Rattle.txn_runs.specs.Bounds.{plus}
 use Rattle.txn_names.specs.Tables.{Named}
 use Rattle.txn_syntax.specs.declared.refusal.Which.{Which}

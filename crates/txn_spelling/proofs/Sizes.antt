@@ -5,7 +5,8 @@ use Rattle.txn_runs.specs.declared.program.Stmt.TheVariants.{If, Loop}
 use Rattle.txn_runs.specs.declared.program.Block.{Block}
 use Rattle.txn_runs.specs.declared.program.Operand.{Operand}
 use Rattle.txn_runs.specs.declared.program.Cmp.{Cmp}
-use Rattle.txn_runs.specs.Fold.{of_stmt, of_if_is, of_loop_is, of_drop_is}
+use Rattle.txn_runs.specs.Fold.{of_stmt}
+use Rattle.txn_runs.proofs.Folds.{of_if_is, of_loop_is, of_drop_is}
 use Rattle.txn_runs.specs.Bounds.{plus, size_row, size}
 
 pub size_if : (left right : Operand) (cmp : Cmp) (a b : Block) → of_stmt size_row plus (If left cmp right a b) ≡ 1 + size a.stmts + size b.stmts

@@ -12,7 +12,8 @@ use Rattle.txn_runs.specs.declared.program.Stmt.TheVariants as s
 use Rattle.txn_runs.specs.declared.program.Stmt.TheViews.{roll-Stmt, roll-out-Stmt}
 use Rattle.txn_runs.specs.declared.program.Stmt.TheFolds.{fold-roll-Stmt}
 use Rattle.txn_runs.specs.declared.program.Block.{Block}
-use Rattle.txn_runs.specs.Fold.{Row, of_stmt, of_layer, of_stmt_is, of_if_is, of_loop_is, block_row}
+use Rattle.txn_runs.specs.Fold.{Row, of_stmt, of_layer, block_row}
+use Rattle.txn_runs.proofs.Folds.{of_stmt_is, of_if_is, of_loop_is}
 use Rattle.txn_runs.specs.Bounds.{plus, greater, size_row, register_row, count_row, size, registers_used, greatest_count}
 use Rattle.txn_names.specs.Tables.{Named, IsNames}
 use Rattle.txn_tokens.specs.declared.token.Token.{Token}

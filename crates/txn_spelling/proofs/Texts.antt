@@ -10,7 +10,8 @@ use Rattle.txn_runs.specs.declared.program.Stmt.TheOpen.{Stmt-F}
 use Rattle.txn_runs.specs.declared.program.Stmt.TheVariants as s
 use Rattle.txn_runs.specs.declared.program.Stmt.TheFolds.{fold-Block, fold_out-Block, fold-roll-Stmt}
 use Rattle.txn_runs.specs.declared.program.Block.{Block}
-use Rattle.txn_runs.specs.Fold.{of_stmt, of_if_is, of_loop_is, of_drop_is, block_row as number_row}
+use Rattle.txn_runs.specs.Fold.{of_stmt, block_row as number_row}
+use Rattle.txn_runs.proofs.Folds.{of_if_is, of_loop_is, of_drop_is}
 use Rattle.txn_runs.specs.Bounds.{plus}
 use Rattle.txn_names.specs.Tables.{Named}
 use Rattle.txn_spelling.specs.Canonical.{braced, else_text, calc_text, move_text, read_text, write_text, test_text, choice_text, turns_text, emit_text, fail_text, text_row, spaced, block_row, stmt_text, stmts_text}

@@ -6,7 +6,8 @@ use Rattle.txn_runs.specs.declared.program.Stmt.{Stmt}
 use Rattle.txn_runs.specs.declared.program.Stmt.TheOpen.{Stmt-F}
 use Rattle.txn_runs.specs.declared.program.Stmt.TheVariants as s
 use Rattle.txn_runs.specs.declared.program.Stmt.TheFolds.{fold-roll-Stmt}
-use Rattle.txn_runs.specs.Fold.{Row, block_row, of_stmt, of_list, of_if_is, of_loop_is}
+use Rattle.txn_runs.specs.Fold.{Row, block_row, of_stmt, of_list}
+use Rattle.txn_runs.proofs.Folds.{of_if_is, of_loop_is}
 use Rattle.txn_runs.specs.Bounds.{plus, greater, steps_row, emits_row, size_row, depth_row, count_row, greatest_count, size, depth, steps_max, emits_max}
 use Rattle.txn_syntax.specs.declared.place.Plain.{Plain}
 use Rattle.txn_syntax.specs.declared.place.Plain.TheVariants as p

@@ -2,7 +2,7 @@
 use Rattle.std.proofs.Common.{◌+◌, ◌≤◌, List, [], ◌∷◌, ◌++◌, Option, None, Some, arith}
 use Rattle.std.specs.Prelude.{max}
 use Rattle.txn_runs.specs.declared.program.TableRef.{TableRef}
-use Rattle.txn_runs.specs.Fold.{of_if_is, of_loop_is}
+use Rattle.txn_runs.proofs.Folds.{of_if_is, of_loop_is}
 use Rattle.txn_runs.specs.Bounds.{greater, register_row, reach_row, after_register, registers_used, reach}
 use Rattle.txn_names.specs.Tables.{Named, items_of}
 use Rattle.txn_tokens.specs.declared.token.Token.{Token}

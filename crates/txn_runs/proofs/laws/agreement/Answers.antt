@@ -1,4 +1,4 @@
-use Rattle.txn_runs.specs.Agree.{after_agrees, after_own}
+use Rattle.txn_runs.proofs.Agree.{after_agrees, after_own}
 use Rattle.txn_runs.proofs.Reading.{same_on}
 use Rattle.txn_runs.proofs.laws.agreement.Goals as goal
 

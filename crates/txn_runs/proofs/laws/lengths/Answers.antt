@@ -1,4 +1,4 @@
-use Rattle.txn_runs.specs.Last.{last_ended, length_stays}
+use Rattle.txn_runs.proofs.Last.{last_ended, length_stays}
 use Rattle.txn_runs.proofs.Ending.{length_within, length_least}
 use Rattle.txn_runs.proofs.laws.lengths.Goals as goal
 

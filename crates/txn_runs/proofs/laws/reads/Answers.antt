@@ -1,4 +1,4 @@
-use Rattle.txn_runs.specs.Order.{after_before}
+use Rattle.txn_runs.proofs.Order.{after_before}
 use Rattle.txn_runs.proofs.Reading.{after_log, after_grown, after_shut}
 use Rattle.txn_runs.proofs.laws.reads.Goals as goal
 

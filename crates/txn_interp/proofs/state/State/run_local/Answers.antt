@@ -1,4 +1,4 @@
-use Rattle.std.proofs.Common.{sym, ap, ◌∙◌, subst, arith}
+use Rattle.std.proofs.Common.{sym, ◌∙◌, subst, arith}
 use Rattle.txn_interp.specs.Kind.{HasKind}
 use Rattle.txn_interp.proofs.LocalRun.{one_local}
 use Rattle.txn_interp.proofs.state.State.run_local.Goals as goal

@@ -1,0 +1,217 @@
+// Programs made ready to run on copied states, and their runs set beside plain walks.
+ghost use Rattle.std.specs.Prelude.{◌≡◌, ◌≤◌, length, IfOk, IsTrue};
+ghost use Rattle.txn_runs.specs.Bounds.{reach};
+ghost use Rattle.txn_code.specs.Nodes.{nodes_of};
+ghost use Rattle.txn_interp.specs.State.{Runs};
+
+use crate::walk::{Walk, walk_program};
+use item_table::Table;
+use journal_core::put_reply;
+use std::alloc::{AllocError, Global};
+use std::sync::ledger::{Blank, Ledger};
+use std::test::Fail;
+use step_count::Steps;
+use txn_code::{Code, link};
+use txn_interp::{Kind, State};
+use txn_names::Names;
+use txn_runs::{Outcome, Program};
+use txn_syntax::read_program;
+
+/// Makes the next step, if the run hasn't ended.
+pub fn step_once<L: Ledger>(
+    state: &mut State,
+    code: &Code,
+    tables: &Table,
+    steps: &mut Steps<L>,
+) -> bool
+    requires runs { Runs code.now.nodes state.old }
+    requires room { state.old.log.room ≡ length tables.now }
+    ensures runs { Runs code.now.nodes state.new }
+    ensures room { state.new.log.room ≡ length tables.now }
+{
+    match state.next_kind(code) {
+        Kind::Local => state.step_local(code, steps),
+        Kind::TableRead { item } => state.step_read(code, tables.get(item), steps),
+        Kind::Write { .. } => state.step_write(code, steps),
+        Kind::Ended => return false,
+    }
+    true
+}
+
+/// The first state of a program over the tables of so many items, in which it lies.
+pub fn begin(alloc: Global, program: &Program, code: &Code, items: u32) -> Result<State, AllocError>
+    requires small { items ≤ 1024 }
+    requires fits { reach program.now ≤ items }
+    requires code { code.now.nodes ≡ nodes_of program.now }
+    ensures runs { IfOk result (λ s. Runs code.now.nodes s) }
+    ensures room { IfOk result (λ s. s.log.room ≡ items) }
+{
+    let _limits = program.body();
+    let mut state = State::room(alloc, items)?;
+    state.reset(code);
+    Ok(state)
+}
+
+/// Whether the state is where the walk is.
+pub fn same(state: &State, walk: &Walk) -> bool {
+    state.position() == walk.made
+        && state.ended() != walk.cut
+        && state.emits().as_slice() == walk.emits.as_slice()
+        && same_registers(state, walk)
+        && same_reads(state, walk)
+        && same_writes(state, walk)
+}
+
+fn same_registers(state: &State, walk: &Walk) -> bool {
+    for n in 0..16u8 {
+        if state.reg(n) != walk.registers[n as usize] {
+            return false;
+        }
+    }
+    true
+}
+
+fn same_reads(state: &State, walk: &Walk) -> bool {
+    let log = state.reads();
+    if log.len() as usize != walk.reads.len() {
+        return false;
+    }
+    for i in 0..log.len() {
+        if walk.reads.get(i as usize) != Some(&log.nth(i)) {
+            return false;
+        }
+    }
+    true
+}
+
+fn same_writes(state: &State, walk: &Walk) -> bool {
+    let set = state.writes();
+    let mut found = 0u32;
+    for item in 0..set.room() {
+        let written = set.get(item);
+        if written.is_some() {
+            found = found.wrapping_add(1);
+        }
+        if walk.writes.get(item as usize).copied() != Some(written) {
+            return false;
+        }
+    }
+    found == set.len()
+}
+
+/// How a run has ended: the reads in its log, and its commit line. What it has written is laid over the tables,
+/// where it is done.
+pub fn settle(
+    alloc: Global,
+    state: &State,
+    tables: &mut Table,
+) -> Result<(u32, Vec<u8>), AllocError>
+    requires { IsTrue state.now.done }
+{
+    let outcome = state.outcome();
+    let mut line = Vec::new(alloc);
+    put_reply(1, &outcome, &mut line)?;
+    if matches!(outcome, Outcome::Done { .. }) && state.writes().room() == tables.len() {
+        state.writes().lay_over(tables);
+    }
+    Ok((state.reads().len(), line))
+}
+
+/// Goes on until so many steps are made. Whether each of the first states, and the last, is where a walk is.
+fn goes_on<L: Ledger>(
+    alloc: Global,
+    program: &Program,
+    state: &mut State,
+    code: &Code,
+    tables: &Table,
+    until: u32,
+    steps: &mut Steps<L>,
+) -> Result<bool, AllocError>
+    requires runs { Runs code.now.nodes state.old }
+    requires room { state.old.log.room ≡ length tables.now }
+    ensures runs { Runs code.now.nodes state.new }
+    ensures room { state.new.log.room ≡ length tables.now }
+{
+    for n in state.position()..until {
+        if n <= 300 && !same(state, &walk_program(alloc, program, tables, n)?) {
+            return Ok(false);
+        }
+        if !step_once(state, code, tables, steps) {
+            return Ok(false);
+        }
+    }
+    let last = walk_program(alloc, program, tables, until)?;
+    Ok(same(state, &last))
+}
+
+/// Runs a program, which ends after so many steps: the reads in its log, and its commit line. None where it doesn't end there,
+/// or a state isn't where a walk is.
+pub fn ending<L: Ledger>(
+    blank: Blank,
+    alloc: Global,
+    names: &Names,
+    text: &[u8],
+    tables: &mut Table,
+    until: u32,
+) -> Result<Option<(u32, Vec<u8>)>, Fail>
+    requires name { blank.name ≡ L.name }
+    requires parts { blank.parts ≡ L.parts }
+    requires one { blank.parts ≡ 1 }
+{
+    let program = read_program(alloc, names, text)?;
+    if !program.fits(tables.len()) {
+        return Ok(None);
+    }
+    let code = link(alloc, &program)?;
+    let mut state = begin(alloc, &program, &code, tables.len())?;
+    let mut steps = Steps::<L>::new(blank);
+    let same = goes_on(
+        alloc, &program, &mut state, &code, tables, until, &mut steps,
+    )?;
+    if !same || !state.ended() {
+        return Ok(None);
+    }
+    Ok(Some(settle(alloc, &state, tables)?))
+}
+
+/// Copies a run after so many steps, and lets the copy go on to its end with a code copied too, and then its source. Whether all
+/// their states are where walks are.
+pub fn copied<L: Ledger>(
+    blank: Blank,
+    alloc: Global,
+    names: &Names,
+    text: &[u8],
+    tables: &Table,
+    at: u32,
+    until: u32,
+) -> Result<bool, Fail>
+    requires name { blank.name ≡ L.name }
+    requires parts { blank.parts ≡ L.parts }
+    requires one { blank.parts ≡ 1 }
+{
+    let program = read_program(alloc, names, text)?;
+    if !program.fits(tables.len()) {
+        return Ok(false);
+    }
+    let code = link(alloc, &program)?;
+    let mut second_code = Code::room(alloc)?;
+    second_code.copy_from(&code);
+    let mut state = begin(alloc, &program, &code, tables.len())?;
+    let mut second = State::room(alloc, tables.len())?;
+    let mut steps = Steps::<L>::new(blank);
+    let before = goes_on(alloc, &program, &mut state, &code, tables, at, &mut steps)?;
+    second.copy_from(&state);
+    let copy = goes_on(
+        alloc,
+        &program,
+        &mut second,
+        &second_code,
+        tables,
+        until,
+        &mut steps,
+    )?;
+    let source = goes_on(
+        alloc, &program, &mut state, &code, tables, until, &mut steps,
+    )?;
+    Ok(before && copy && source && second.ended() && state.ended())
+}
