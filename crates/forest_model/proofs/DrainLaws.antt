@@ -101,7 +101,7 @@ filter-less p q u (x ∷ xs) same gone was there =
     let rest : length (filter q xs) < length (filter p xs) = filter-less p q u xs same gone was later in
     rw here (either (cases_Bool (p x)) (λ y. rw y (omega arith)) (λ y. rw y (omega arith))))
 
-numbers-push : (journal : List Entry) (e : Entry) → number_in e ≡ None → numbers (journal ++ e ∷ []) ≡ numbers journal
+pub numbers-push : (journal : List Entry) (e : Entry) → number_in e ≡ None → numbers (journal ++ e ∷ []) ≡ numbers journal
 numbers-push journal e none = filter_map-append number_in journal (e ∷ []) ∙ rw none (append-nil (numbers journal))
 
 numbers-all_begun : (journal : List Entry) → AllByRecursion (λ t. has_begun journal t ≡ true) (numbers journal)
@@ -154,7 +154,7 @@ pub record IsDrainStep (f g : Forest) : Type 0 where
   pub lanes : g.lanes ≡ f.lanes
   pub home : IsHome f → IsHome g
 
-started-keeps : (before : List Started) (g : Forest) (o : Option ℕ) → ((settle before (start_some o g)).k ≡ g.k) × ((settle before (start_some o g)).lanes ≡ g.lanes) × ((settle before (start_some o g)).journal ≡ g.journal)
+pub started-keeps : (before : List Started) (g : Forest) (o : Option ℕ) → ((settle before (start_some o g)).k ≡ g.k) × ((settle before (start_some o g)).lanes ≡ g.lanes) × ((settle before (start_some o g)).journal ≡ g.journal)
 started-keeps before g None = (refl, refl, refl)
 started-keeps before g (Some t) = (refl, refl, refl)
 
@@ -186,7 +186,7 @@ module _ (f : Forest) (h : IsSound f) (u : Started) (found : find_started f.star
       rw same_most (omega arith)
 
 -- the first that has ended is started, and has ended
-ended-found : (f : Forest) (t : ℕ) → IsSound f → first_ended f ≡ Some t → (u : Started) × (find_started f.started t ≡ Some u) × (is_ended f u ≡ true)
+pub ended-found : (f : Forest) (t : ℕ) → IsSound f → first_ended f ≡ Some t → (u : Started) × (find_started f.started t ≡ Some u) × (is_ended f u ≡ true)
 ended-found f t h e =
     all-first (λ n. (u : Started) × (find_started f.started n ≡ Some u) × (is_ended f u ≡ true)) (is_prior f.journal) (map number (filter (is_ended f) f.started)) t e
     (all-map (λ n. (u : Started) × (find_started f.started n ≡ Some u) × (is_ended f u ≡ true)) number (filter (is_ended f) f.started)
@@ -195,7 +195,7 @@ ended-found f t h e =
     (all-filter (λ r. find_started f.started r.number ≡ Some r) (is_ended f) f.started (found-self f.started h.right.rising))
     (filter-passes (is_ended f) f.started)))
 
-commit-step : (f : Forest) (t : ℕ) → IsSound f → first_ended f ≡ Some t → IsDrainStep f (after_commit f (commit f t))
+pub commit-step : (f : Forest) (t : ℕ) → IsSound f → first_ended f ≡ Some t → IsDrainStep f (after_commit f (commit f t))
 commit-step f t h e =
     let u : (u : Started) × (find_started f.started t ≡ Some u) × (is_ended f u ≡ true) = ended-found f t h e in
     let same : u.0.number ≡ t = found-number f.started t u.0 u.1 in
@@ -211,7 +211,7 @@ commit-step f t h e =
       home = committed-home f u.0;
     })
 
-row-step : (f : Forest) (row : Row) → IsSound f → pick f ≡ Some row → IsDrainStep f (step_row f row)
+pub row-step : (f : Forest) (row : Row) → IsSound f → pick f ≡ Some row → IsDrainStep f (step_row f row)
 row-step f row h e =
     let one : IsPickStep f (step_row f row) = pick-step f row h e in
     let same : most_work (step_row f row) ≡ most_work f = most_work-same f (step_row f row) one.alike.k one.alike.lanes (ap (λ j. longest j (numbers j)) one.alike.journal) in

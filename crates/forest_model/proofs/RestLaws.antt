@@ -25,7 +25,7 @@ find-past : (w : Conflict) (front back : List Shadow) → AllByRecursion (λ s. 
 find-past w [] back h = refl
 find-past w (s ∷ front) back h = rw (and_left (s.guard == w.0) (leb s.position w.1) (ne_eqb _ _ h.0)) (find-past w front back h.1)
 
-settle_again : (olds : List ℕ) (front ss : List Shadow) (ws : List Conflict) → AllZip StandsFor ss ws → IsApart ws → AllByRecursion (λ w. AllByRecursion (λ s. s.guard ≢ w.0) front) ws
+pub settle_again : (olds : List ℕ) (front ss : List Shadow) (ws : List Conflict) → AllZip StandsFor ss ws → IsApart ws → AllByRecursion (λ w. AllByRecursion (λ s. s.guard ≢ w.0) front) ws
     → map (λ w. stay_or_copy (find (stands_for w) (front ++ ss)) olds w) ws ≡ ss
 settle_again olds front [] [] h apart new = refl
 settle_again olds front [] (w ∷ ws) h apart new = absurd h

@@ -1,5 +1,5 @@
 -- The commit line.
-use Rattle.std.specs.Prelude.{ℕ, ℤ, List, [], ◌∷◌, ◌++◌, codes, decimal}
+use Rattle.std.specs.Prelude.{ℕ, List, ◌++◌, codes, decimal}
 use Rattle.std.specs.Fmt.{signed_decimal}
 use Rattle.scc_text.specs.Number.{numbers}
 use Rattle.txn_runs.specs.declared.outcome.FaultKind.{FaultKind}

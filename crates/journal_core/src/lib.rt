@@ -11,3 +11,6 @@ pub use entry::Entry;
 pub use journal::Journal;
 pub use laws::legal_journals;
 pub use reply::put_reply;
+
+#[cfg(test)]
+mod tests;
