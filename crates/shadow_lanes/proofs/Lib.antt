@@ -1,0 +1,12 @@
+pub mod Lists
+pub mod Slots
+pub mod Views
+pub mod Upkeep
+pub mod Order
+pub mod Finds
+pub mod Changes
+pub mod Comings
+pub mod Rows
+pub mod Fills
+pub mod Cuts
+pub mod Refills
