@@ -11,13 +11,13 @@ pub record SpellsNumber (word : List ℕ) (least most number : ℕ) : Type 0 whe
   pub above : least ≤ number
   pub below : number ≤ most
 
--- `script K LANES`
+-- `script K LANES`: 1 to 8 shadows a transaction, and 1 to 64 lanes
 pub record SpellsScript (words : List (List ℕ)) (k lanes : ℕ) : Type 0 where
   pub first : List ℕ
   pub second : List ℕ
   pub spelled : words ≡ codes "script" ∷ first ∷ second ∷ []
-  pub shadows : SpellsNumber first 1 1 k
-  pub width : SpellsNumber second 1 1 lanes
+  pub shadows : SpellsNumber first 1 8 k
+  pub width : SpellsNumber second 1 64 lanes
 
 -- the words name this mode
 abbrev pub Spells : List (List ℕ) → Mode → Type 0

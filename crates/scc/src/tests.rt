@@ -75,89 +75,17 @@ fn ends_so<R: Threads + Wait + AllocGlobal>(
 
 const SCRIPT: [&str; 3] = ["script", "1", "1"];
 
-// Each input gives this output, in pieces of any size.
-fn gives<R: Threads + Wait + AllocGlobal>(
+// The words and the input give this output, in pieces of any size.
+pub fn gives<R: Threads + Wait + AllocGlobal>(
     rt: &R,
+    words: &[&str],
     input: &[u8],
     written: &[u8],
 ) -> Result<bool, AllocError> {
     let case = plain(input, written);
-    let whole = ends_so(rt, &SCRIPT, case)?;
-    let bytewise = ends_so(rt, &SCRIPT, Case { most: 1, ..case })?;
+    let whole = ends_so(rt, words, case)?;
+    let bytewise = ends_so(rt, words, Case { most: 1, ..case })?;
     Ok(whole && bytewise)
-}
-
-#[test]
-fn transactions_run_and_commit(rt: HostRuntime) -> Result<(), Fail> {
-    let rows: [(&[u8], &[u8]); 8] = [
-        (ROW_1, REPLY_1),
-        (b"", b"end 0\n"),
-        (b"begin 1 { if 1 == 1 { } }", b"refuse 90\nend 0\n"),
-        (b"commit 1\n", b"refuse 25\nend 0\n"),
-        (
-            b"begin 1 { emit 2; }\ncommit 1\n",
-            b"begin 1 started\nrefuse 30\nend 0\n",
-        ),
-        (
-            b"table a 2\nbegin 1 { a[0] = 3; r1 = a[0]; emit r1; a[7] = 1; }\nrun\ncommit 1\nrun\n",
-            b"table a 2\nbegin 1 started\nrun 4\ncommit 1 fault range\nrun 0\nfinal a 0 0\nend 1\n",
-        ),
-        (
-            b"begin 1 { }\ncommit 1\nbegin 2 { r0 = 9223372036854775807; r0 = r0 + 1; }\nrun\ncommit 2\ncommit 1\n",
-            b"begin 1 started\ncommit 1 done\nbegin 2 started\nrun 2\ncommit 2 fault overflow\nrefuse 25\nend 2\n",
-        ),
-        (
-            b"table a 1\nbegin 1 { a[0] = 4; }\nrun\ncommit 1\nbegin 2 { r1 = a[0]; a[0] = r1; emit r1; }\nrun\ncommit 2\ndump a",
-            b"table a 1\nbegin 1 started\nrun 1\ncommit 1 done\nbegin 2 started\nrun 3\ncommit 2 done 4\na 4\nfinal a 4\nend 2\n",
-        ),
-    ];
-    for (input, written) in rows {
-        assert!(rt; gives(&rt, input, written)?);
-    }
-    Ok(())
-}
-
-#[test]
-fn lines_are_refused_alone(rt: HostRuntime) -> Result<(), Fail> {
-    let rows: [(&[u8], &[u8]); 9] = [
-        (b"\n \t\r\n# a\n#a", b"end 0\n"),
-        (
-            b"table min 4\ntable a 0\ntable a 1025\n",
-            b"refuse 90\nrefuse 90\nrefuse 90\nend 0\n",
-        ),
-        (
-            b"table a 1\ntable a 2\n",
-            b"table a 1\nrefuse 90\nfinal a 0\nend 0\n",
-        ),
-        (
-            b"dump a\nput a 0 1\nfrob\n",
-            b"refuse 90\nrefuse 90\nrefuse 90\nend 0\n",
-        ),
-        (
-            b"run x\nbegin\nbegin 1\nbegin 1000000000001 { }\n",
-            b"refuse 90\nrefuse 90\nrefuse 90\nrefuse 90\nend 0\n",
-        ),
-        (
-            b"begin 1 { r0 = b[0]; }\ntable b 1\nbegin 1 { r0 = b[0]; }\n",
-            b"refuse 90\ntable b 1\nbegin 1 started\nfinal b 0\nend 0\n",
-        ),
-        (
-            b"begin 1 { }\ntable a 1\nbegin 1 { }\n",
-            b"begin 1 started\nrefuse 90\nrefuse 90\nend 0\n",
-        ),
-        (
-            b"commit -1\ncommit 4294967296\ncommit 4294967295\ncommit 0\n",
-            b"refuse 90\nrefuse 90\nrefuse 25\nrefuse 25\nend 0\n",
-        ),
-        (
-            b"\x00\n\xff\xfe\ntable a\x0b 1\n",
-            b"refuse 90\nrefuse 90\nrefuse 90\nend 0\n",
-        ),
-    ];
-    for (input, written) in rows {
-        assert!(rt; gives(&rt, input, written)?);
-    }
-    Ok(())
 }
 
 #[test]
@@ -203,9 +131,9 @@ fn a_fault_ends_a_run(rt: HostRuntime) -> Result<(), Fail> {
     Ok(())
 }
 
-// A line of so many bytes: a table, and blanks.
-fn long_line(alloc: Global, bytes: usize) -> Result<Vec<u8>, AllocError> {
-    let mut line = b"table a 4".to_vec(alloc)?;
+// A line of so many bytes: some text, and blanks.
+fn long_line(alloc: Global, text: &[u8], bytes: usize) -> Result<Vec<u8>, AllocError> {
+    let mut line = text.to_vec(alloc)?;
     line.resize(bytes, b' ')?;
     Ok(line)
 }
@@ -213,14 +141,26 @@ fn long_line(alloc: Global, bytes: usize) -> Result<Vec<u8>, AllocError> {
 #[test]
 fn a_line_has_at_most_8192_bytes(rt: HostRuntime) -> Result<(), Fail> {
     let alloc = rt.alloc();
+    let whole = b"table a 4\nfinal a 0 0 0 0\nend 0\n";
+    let refused = b"refuse 11\nend 0\n";
+    assert!(rt; gives(&rt, &SCRIPT, &long_line(alloc, b"table a 4", 8192)?, whole)?);
     assert!(rt;
         gives(
             &rt,
-            &long_line(alloc, 8192)?,
-            b"table a 4\nfinal a 0 0 0 0\nend 0\n"
+            &SCRIPT,
+            &long_line(alloc, b"table a 4", 8193)?,
+            refused
         )?
     );
-    assert!(rt; gives(&rt, &long_line(alloc, 8193)?, b"refuse 90\nend 0\n")?);
+    assert!(rt; gives(&rt, &SCRIPT, &long_line(alloc, b"# table", 8193)?, refused)?);
+    assert!(rt;
+        gives(
+            &rt,
+            &SCRIPT,
+            &long_line(alloc, b"# table", 8192)?,
+            b"end 0\n"
+        )?
+    );
     Ok(())
 }
 
@@ -232,11 +172,18 @@ fn words_name_a_mode(rt: HostRuntime) -> Result<(), Fail> {
         written: b"",
         ..good
     };
-    assert!(rt; ends_so(&rt, &["script", "0000000001", "1"], good)?);
-    let words: [[&str; 3]; 8] = [
+    for mode in [
+        ["script", "0000000001", "1"],
+        ["script", "8", "64"],
+        ["script", "0000000008", "0000000064"],
+    ] {
+        assert!(rt; ends_so(&rt, &mode, good)?);
+    }
+    let words: [[&str; 3]; 9] = [
         ["script", "9", "1"],
         ["script", "0", "1"],
-        ["script", "1", "2"],
+        ["script", "1", "0"],
+        ["script", "1", "65"],
         ["script", "1", ""],
         ["script", "+1", "1"],
         ["script", "1", "00000000001"],

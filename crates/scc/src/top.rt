@@ -27,7 +27,7 @@ pub fn scc_top<R: Threads + Wait, S: Source, K: Sink, G: Gate + Sync, L: Ledger>
 ) -> Status
     // `script K LANES`: there are bytes that were read, and each end says what was written and how many steps were made.
     ensures script { (k lanes : ℕ) → SpellsScript (map string_bytes words.now) k lanes →
-        (read : List ℕ) × ScriptRan result read (S.left source.old) (S.left source.new) (K.written sink.old) (K.written sink.new) steps.old steps.new }
+        (read : List ℕ) × ScriptRan k lanes result read (S.left source.old) (S.left source.new) (K.written sink.old) (K.written sink.new) steps.old steps.new }
 
     // Bad words are exactly those that name no mode, and then nothing was done.
     ensures bad_words { result ≡ Status.BadWords → (mode : Mode) → ¬ Spells (map string_bytes words.now) mode }
@@ -55,7 +55,7 @@ pub fn scc_plain<S: Source, K: Sink, L: Ledger>(
     steps: &mut Steps<L>,
 ) -> Status
     ensures script { (k lanes : ℕ) → SpellsScript (map string_bytes words.now) k lanes →
-        (read : List ℕ) × ScriptRan result read (S.left source.old) (S.left source.new) (K.written sink.old) (K.written sink.new) steps.old steps.new }
+        (read : List ℕ) × ScriptRan k lanes result read (S.left source.old) (S.left source.new) (K.written sink.old) (K.written sink.new) steps.old steps.new }
     ensures bad_words { result ≡ Status.BadWords → (mode : Mode) → ¬ Spells (map string_bytes words.now) mode }
     ensures good_words { (mode : Mode) → Spells (map string_bytes words.now) mode → result ≢ Status.BadWords }
     ensures other_words { ((mode : Mode) → ¬ Spells (map string_bytes words.now) mode) → result ≡ Status.BadWords }
@@ -101,7 +101,7 @@ pub fn top_uncounted<L: Ledger, R: Threads + Wait, S: Source, K: Sink, G: Gate +
     requires parts { blank.parts ≡ L.parts }
     requires one { blank.parts ≡ 1 }
     ensures script { (k lanes : ℕ) → SpellsScript (map string_bytes words.now) k lanes →
-        (read : List ℕ) × (steps : ℕ) × ScriptRan result read (S.left source.old) (S.left source.new) (K.written sink.old) (K.written sink.new) 0 steps }
+        (read : List ℕ) × (steps : ℕ) × ScriptRan k lanes result read (S.left source.old) (S.left source.new) (K.written sink.old) (K.written sink.new) 0 steps }
     ensures bad_words { result ≡ Status.BadWords → (mode : Mode) → ¬ Spells (map string_bytes words.now) mode }
     ensures good_words { (mode : Mode) → Spells (map string_bytes words.now) mode → result ≢ Status.BadWords }
     ensures other_words { ((mode : Mode) → ¬ Spells (map string_bytes words.now) mode) → result ≡ Status.BadWords }

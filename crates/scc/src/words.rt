@@ -7,7 +7,7 @@ use scc_text::read_natural;
 /// What the words ask for.
 #[derive(Clone, Copy, Debug, PartialEq, Eq)]
 pub enum Mode {
-    /// Answers each line as it is read, with `k` shadows a transaction and so many lanes.
+    /// Answers each line as it is read, with at most `k` shadows a transaction, 1 to 8, and so many lanes, 1 to 64.
     Script { k: u32, lanes: u32 },
 }
 
@@ -33,10 +33,10 @@ fn read_script(mode: &str, k: &str, lanes: &str) -> Result<Mode, BadWords>
     if mode != "script" {
         return Err(BadWords);
     }
-    let Some(k) = read_number(k.as_bytes(), 1, 1) else {
+    let Some(k) = read_number(k.as_bytes(), 1, 8) else {
         return Err(BadWords);
     };
-    let Some(lanes) = read_number(lanes.as_bytes(), 1, 1) else {
+    let Some(lanes) = read_number(lanes.as_bytes(), 1, 64) else {
         return Err(BadWords);
     };
     Ok(Mode::Script { k, lanes })

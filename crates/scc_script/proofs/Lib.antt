@@ -1,3 +1,12 @@
-pub mod Long
-pub mod Laid
+pub mod Commits
+pub mod Draining
 pub mod FinalLines
+pub mod Items
+pub mod Refused
+pub mod ItemNames
+pub mod Lists
+pub mod Long
+pub mod Openings
+pub mod Registers
+pub mod Settings
+pub mod Sound

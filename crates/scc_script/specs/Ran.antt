@@ -15,8 +15,8 @@ status_of ending.WriteFault = status.WriteFault
 status_of ending.OutOfMemory = status.OutOfMemory
 status_of ending.InputLimit = status.InputLimit
 
--- a script that read these bytes and ended so
-pub record ScriptRan (answer : Status) (read : List ℕ) (left_old left_new written_old written_new : Option (List ℕ)) (steps_old steps_new : ℕ) : Type 0 where
+-- a script for so many shadows and lanes that read these bytes and ended so
+pub record ScriptRan (k lanes : ℕ) (answer : Status) (read : List ℕ) (left_old left_new written_old written_new : Option (List ℕ)) (steps_old steps_new : ℕ) : Type 0 where
   pub ending : Ending
   pub status : answer ≡ status_of ending
-  pub ran : Ran meaning opening_script ending read left_old left_new written_old written_new steps_old steps_new
+  pub ran : Ran meaning (opening_script k lanes) ending read left_old left_new written_old written_new steps_old steps_new

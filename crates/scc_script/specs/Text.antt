@@ -1,65 +1,51 @@
 -- What a script answers to a line: its state from then on, its reply, and how many steps it makes. It speaks of the tables'
--- names and of the forest in numbers alone.
-use Rattle.std.specs.Prelude.{ℕ, ◌+◌, pos, nat_lt, ◌==◌, ◌||◌, if◌then◌else◌, List, [], ◌∷◌, ◌++◌, length, replicate, slice_range, Option, Some, None, is_some, is_none, not, Bool, ◌&&◌, Result, Ok, Err, codes}
+-- names, of the forest in numbers and of runs alone.
+use Rattle.std.specs.Prelude.{ℕ, ◌+◌, nat_lt, Bool, true, false, if◌then◌else◌, List, [], ◌∷◌, ◌++◌, length, slice_range, Option, Some, None, Result, Ok, Err, bytes_eq, codes}
 use Rattle.line_loop.specs.Meaning.{Meaning}
 use Rattle.scc_text.specs.declared.command.Dialect.TheVariants as dialect
 use Rattle.scc_text.specs.declared.command.Command.{Command}
-use Rattle.scc_text.specs.declared.command.Command.TheVariants.{Blank, Table, Put, Begin, Step, Run, Commit, Withdraw, Show, Dump, Seal, Drain, Journal, Report, Ask, Quit}
-use Rattle.scc_text.specs.declared.words.Span.{Span}
+use Rattle.scc_text.specs.declared.command.Command.TheVariants.{Blank, Table, Put, Begin, Step, Run, Commit, Withdraw, Show, Dump, Seal, Drain}
 use Rattle.scc_text.specs.Command.{command_of, program_bytes}
+use Rattle.scc_text.specs.Words.{Word, words_of}
 use Rattle.txn_runs.specs.Run.{Tables}
 use Rattle.txn_runs.specs.declared.program.TableRef.{TableRef}
-use Rattle.txn_runs.specs.declared.program.Stmt.{Stmt}
-use Rattle.txn_names.specs.Tables.{Named, items_of, table_named, added}
-use Rattle.txn_names.specs.Refusal.{add_refusal}
+use Rattle.txn_runs.specs.declared.program.Program.{Program}
+use Rattle.txn_names.specs.Tables.{Named, table_named}
+use Rattle.txn_syntax.specs.declared.refusal.ReadRefusal.{ReadRefusal}
+use Rattle.txn_syntax.specs.declared.refusal.ReadRefusal.TheVariants.{Syntax, UnknownTable, Limit, OutOfMemory}
 use Rattle.txn_syntax.specs.Reads.{read_of}
-use Rattle.journal_core.specs.Journal.{began, commits, is_sealed}
-use Rattle.journal_core.specs.Reply.{commit_line}
-use Rattle.shadow_forest.specs.Forest.{ForestView, opened, begun, ran, steps_left, committed, commit_refusal, serial_tables, reply_in, next_txn}
-use Rattle.shadow_forest.specs.declared.refusal.CommitRefusal.{CommitRefusal}
-use Rattle.shadow_forest.specs.declared.refusal.CommitRefusal.TheVariants.{Unknown, NotStarted, NotEnded}
-use Rattle.scc_script.specs.Reply.{row_line, refuse_line, number_line, table_line, begin_line}
+use Rattle.block_rule.specs.declared.role.Role.{Role}
+use Rattle.block_rule.specs.declared.role.Role.TheVariants.{Optimistic, Guard}
+use Rattle.journal_core.specs.Journal.{commits}
+use Rattle.forest_model.specs.Forest.{Forest}
+use Rattle.forest_model.specs.World.{opened}
+use Rattle.forest_model.specs.Start.{next_to_start}
+use Rattle.forest_model.specs.Events.{Refusal, IsSealed, TooMany, Unknown, NotStarted, NoShadow, HasEnded, IsBlocked, NotEnded, begin, seal, step, commit, withdraw, gone}
+use Rattle.forest_model.specs.Drain.{after_step, after_commit, run_idle, drain}
+use Rattle.shadow_forest.specs.declared.answers.Life.{Life}
+use Rattle.shadow_forest.specs.declared.answers.Life.TheVariants as life
+use Rattle.shadow_forest.specs.Answers.{step_ticks, life_of, looks_of}
+use Rattle.scc_script.specs.Reply.{row_line, number_line, table_line, put_line, begin_line, step_line, start_lines, refuse_line, refuse_at_line, refuse_limit_line}
+use Rattle.scc_script.specs.Opening.{Opening, text_at, opening_after}
+use Rattle.scc_script.specs.Shown.{shadow_lines, waiting_line}
+use Rattle.scc_script.specs.Drained.{commit_lines, drained}
 use Rattle.scc_script.specs.Finals.{final_lines}
-use Rattle.scc_script.specs.Runnable.{runnable}
 
--- the names of the tables, and the forest once a transaction began
+-- The names of the tables, whether the forest is opened, and the forest in numbers. Before the forest is opened nothing began,
+-- and its tables have the values that were put.
 pub record Script : Type 0 where
   pub names : List Named
-  pub forest : Option ForestView
+  pub is_open : Bool
+  pub forest : Forest
 
--- before the first line
-abbrev pub opening_script : Script
-opening_script = record { names = []; forest = None }
+-- before the first line, for at most so many shadows a transaction and so many started transactions
+abbrev pub opening_script : ℕ → ℕ → Script
+opening_script k lanes = record { names = []; is_open = false; forest = (opened [] k lanes).forest }
 
 pub record Answer : Type 0 where
   pub next : Script
   pub reply : List ℕ
   pub ticks : ℕ
-
--- tables of 0
-abbrev pub zeros : List Named → Tables
-zeros names = replicate (items_of names) (pos 0)
-
--- the committed tables: those after the committed programs were run alone, one after another, in the order of their commits
-abbrev pub tables_in : List Named → Option ForestView → Tables
-tables_in names None = zeros names
-tables_in names (Some f) = serial_tables f
-
-abbrev pub tables_of : Script → Tables
-tables_of s = tables_in s.names s.forest
-
--- the forest, and before the first transaction one in which nothing began
-abbrev pub forest_in : List Named → Option ForestView → ForestView
-forest_in names None = opened (zeros names) 1 1
-forest_in names (Some f) = f
-
--- the number of items of the tables that a script keeps
-abbrev pub items_in : List Named → Option ForestView → ℕ
-items_in names None = items_of names
-items_in names (Some f) = length f.tables
-
-abbrev pub with_forest : Script → ForestView → Script
-with_forest s f = record s { forest = Some f }
 
 -- a reply to a line that makes no step
 abbrev pub replied : Script → List ℕ → Answer
@@ -69,87 +55,195 @@ replied s reply = record { next = s; reply = reply; ticks = 0 }
 abbrev pub refused : Script → ℕ → Answer
 refused s code = replied s (refuse_line code)
 
--- `table NAME SIZE`
-abbrev pub table_answer : Script → List ℕ → ℕ → Answer
-table_answer s name size =
-    if is_some s.forest || is_some (add_refusal s.names name size) then refused s 90
-    else replied (record s { names = added name size s.names }) (table_line name size)
+-- the script with another forest
+abbrev pub with_forest : Script → Forest → Script
+with_forest s f = record s { forest = f }
 
--- whether a transaction may begin: none is under way, the journal isn't sealed, and fewer than 20,000 began
-abbrev pub may_begin : ForestView → Bool
-may_begin f = is_none f.started && not (is_sealed f.entries) && not (began f.entries == 20000)
+-- the script whose forest is opened, with another forest
+abbrev pub open_with : Script → Forest → Script
+open_with s f = record s { is_open = true; forest = f }
 
-abbrev pub begin_in : Script → ℕ → ForestView → List Stmt → Answer
-begin_in s deadline f body =
-    if may_begin f then replied (with_forest s (begun body deadline f)) (begin_line (next_txn f)) else refused s 90
-
--- `begin DEADLINE PROGRAM`, where the program is one that a script runs, or there is none
-abbrev pub begin_answer : Script → ℕ → Option (List Stmt) → Answer
-begin_answer s deadline None = refused s 90
-begin_answer s deadline (Some body) = begin_in s deadline (forest_in s.names s.forest) body
-
--- `run`
-abbrev pub run_answer : Script → Option ForestView → Answer
-run_answer s None = replied s (number_line (codes "run ") 0)
-run_answer s (Some f) = record { next = with_forest s (ran f); reply = number_line (codes "run ") (steps_left f); ticks = steps_left f }
-
--- the forest after a commit that is refused so, or isn't
-abbrev pub forest_after : ForestView → ℕ → Option CommitRefusal → ForestView
-forest_after f txn None = committed txn f
-forest_after f txn (Some refusal) = f
-
--- the number of a refusal
-abbrev pub code_of : CommitRefusal → ℕ
+-- the number of a refusal of the forest
+abbrev pub code_of : Refusal → ℕ
+code_of TooMany = 23
+code_of IsSealed = 24
 code_of Unknown = 25
 code_of NotStarted = 26
+code_of HasEnded = 27
+code_of IsBlocked = 28
+code_of NoShadow = 29
 code_of NotEnded = 30
 
--- the outcome of the program, run alone after those committed before, or the refusal
-abbrev pub commit_reply : ForestView → ℕ → Option CommitRefusal → List ℕ
-commit_reply f txn None = commit_line txn (reply_in f txn)
-commit_reply f txn (Some refusal) = refuse_line (code_of refusal)
+-- Before the forest is opened.
+
+-- the tables as they stand
+abbrev pub opening_of : Script → Opening
+opening_of s = record { names = s.names; tables = s.forest.tables }
+
+-- the script over other tables, in which nothing began
+abbrev pub with_opening : Script → Opening → Script
+with_opening s o = record s { names = o.names; forest = (opened o.tables s.forest.k s.forest.lanes).forest }
+
+-- `table` with name and size, or `put` with name, place and value
+abbrev pub setting_line : List ℕ → Command → List ℕ
+setting_line line (Table name size) = table_line (text_at line name) size
+setting_line line (Put name index value) = put_line (text_at line name) index value
+setting_line line other = []
+
+-- a `table` or `put` line that leads to these tables or is refused so
+abbrev pub set_by : Script → List ℕ → Result Opening ℕ → Answer
+set_by s reply (Ok o) = replied (with_opening s o) reply
+set_by s reply (Err code) = refused s code
+
+-- `table NAME SIZE` and `put NAME INDEX VALUE`
+abbrev pub setting_answer : Script → List ℕ → Command → Answer
+setting_answer s line command =
+    if s.is_open then refused s 21 else set_by s (setting_line line command) (opening_after (opening_of s) line command)
+
+-- Begin and seal.
+
+-- bytes that are no program; want of memory is no reply
+abbrev pub unread_line : ReadRefusal → List ℕ
+unread_line (Syntax at) = refuse_at_line 14 at
+unread_line (UnknownTable at) = refuse_at_line 16 at
+unread_line (Limit which) = refuse_limit_line which
+unread_line OutOfMemory = []
+
+-- a begin that led to this forest, or was refused so
+abbrev pub begun_line : Result (ℕ × Forest) Refusal → List ℕ
+begun_line (Ok begun) = begin_line begun.0 (life_of begun.1 begun.0)
+begun_line (Err refusal) = refuse_line (code_of refusal)
+
+-- a begin opens the forest, also a refused one
+abbrev pub begun_answer : Script → Result (ℕ × Forest) Refusal → Answer
+begun_answer s result = replied (open_with s (after_step s.forest result)) (begun_line result)
+
+-- `begin DEADLINE PROGRAM`, where this was read
+abbrev pub begin_answer : Script → ℕ → Result Program ReadRefusal → Answer
+begin_answer s deadline (Ok program) = begun_answer s (begin s.forest program deadline)
+begin_answer s deadline (Err refusal) = replied s (unread_line refusal)
+
+-- `seal`, which opens the forest
+abbrev pub seal_answer : Script → Answer
+seal_answer s = replied (open_with s (seal s.forest)) (codes "seal\n")
+
+-- Steps.
+
+-- without a guard the optimistic shadow is meant
+abbrev pub role_of : Option ℕ → Role
+role_of None = Optimistic
+role_of (Some guard) = Guard guard
+
+-- a step that led to this forest, or was refused so
+abbrev pub stepped_line : ℕ → Role → Result (ℕ × Forest) Refusal → List ℕ
+stepped_line txn role (Ok moved) = step_line txn role moved.0
+stepped_line txn role (Err refusal) = refuse_line (code_of refusal)
+
+-- an accepted step is one step, a refused one is none
+abbrev pub stepped_answer : Script → ℕ → Role → Result (ℕ × Forest) Refusal → Answer
+stepped_answer s txn role result = record { next = with_forest s (after_step s.forest result); reply = stepped_line txn role result; ticks = step_ticks result }
+
+-- `step T` and `step T U`
+abbrev pub step_answer : Script → ℕ → Role → Answer
+step_answer s txn role = stepped_answer s txn role (step s.forest txn role)
+
+-- `run`: steps of the pick until there is none
+abbrev pub run_answer : Script → Answer
+run_answer s = record { next = with_forest s (run_idle s.forest).1; reply = number_line (codes "run ") (run_idle s.forest).0; ticks = (run_idle s.forest).0 }
+
+-- Commit, withdraw and drain.
+
+-- a commit that led to this forest, or was refused so
+abbrev pub committed_lines : Forest → ℕ → Result Forest Refusal → List ℕ
+committed_lines f txn (Ok g) = commit_lines f txn
+committed_lines f txn (Err refusal) = refuse_line (code_of refusal)
 
 -- `commit T`
-abbrev pub commit_answer : Script → ℕ → Option ForestView → Answer
-commit_answer s txn None = refused s 25
-commit_answer s txn (Some f) = replied (with_forest s (forest_after f txn (commit_refusal f txn))) (commit_reply f txn (commit_refusal f txn))
+abbrev pub commit_answer : Script → ℕ → Answer
+commit_answer s txn = replied (with_forest s (after_commit s.forest (commit s.forest txn))) (committed_lines s.forest txn (commit s.forest txn))
+
+-- a withdrawal that led to this forest, or was refused so; an accepted one tells who starts
+abbrev pub withdrawn_lines : Forest → ℕ → Result Forest Refusal → List ℕ
+withdrawn_lines f txn (Ok g) = number_line (codes "withdraw ") txn ++ start_lines (next_to_start (gone f txn))
+withdrawn_lines f txn (Err refusal) = refuse_line (code_of refusal)
+
+-- `withdraw T`
+abbrev pub withdraw_answer : Script → ℕ → Answer
+withdraw_answer s txn = replied (with_forest s (after_commit s.forest (withdraw s.forest txn))) (withdrawn_lines s.forest txn (withdraw s.forest txn))
+
+-- `drain`: all is called home; then, until neither is there, the first by priority that has ended is committed, or the pick
+-- makes a step
+abbrev pub drain_answer : Script → Answer
+drain_answer s = record {
+  next = with_forest s (drain s.forest).1;
+  reply = (drained s.forest).lines ++ number_line (codes "drain ") (drained s.forest).commits;
+  ticks = (drain s.forest).0;
+}
+
+-- Views.
+
+-- the lines that show a transaction which stands so
+abbrev pub show_by : List Named → Forest → ℕ → Life → List ℕ
+show_by names f txn life.Unknown = refuse_line 25
+show_by names f txn life.Waiting = waiting_line txn
+show_by names f txn life.Started = shadow_lines names f txn (looks_of f txn)
+
+-- `show T`
+abbrev pub show_answer : Script → ℕ → Answer
+show_answer s txn = replied s (show_by s.names s.forest txn (life_of s.forest txn))
 
 -- the values of a table
 abbrev pub row_of : Tables → TableRef → Tables
 row_of tables table = slice_range tables table.base (table.base + table.size)
 
 -- `dump NAME`, where the name is a table's, or is none
-abbrev pub dump_answer : Script → List ℕ → Option TableRef → Answer
-dump_answer s name None = refused s 90
-dump_answer s name (Some table) = replied s (row_line name (row_of (tables_of s) table))
+abbrev pub dump_by : Script → List ℕ → Option TableRef → List ℕ
+dump_by s name None = refuse_line 22
+dump_by s name (Some table) = row_line name (row_of s.forest.tables table)
 
--- the bytes of a line that a span points at
-abbrev pub text_at : List ℕ → Span → List ℕ
-text_at line span = slice_range line span.from span.to
+-- `dump NAME`
+abbrev pub dump_answer : Script → List ℕ → Answer
+dump_answer s name = replied s (dump_by s name (table_named s.names name))
+
+-- All lines.
+
+-- `journal` is no command of a script yet
+abbrev pub is_unbuilt : List Word → Bool
+is_unbuilt [] = false
+is_unbuilt (word ∷ words) = bytes_eq word.text (codes "journal")
+
+-- the command that a line spells, or the refusal 12, 13 or 17
+abbrev pub spelled : List ℕ → Result Command ℕ
+spelled line = if is_unbuilt (words_of line) then Err 12 else command_of dialect.Script line
+
+-- the answer to a command of this line
+abbrev pub command_answer : Script → List ℕ → Command → Answer
+command_answer s line Blank = replied s []
+command_answer s line (Table name size) = setting_answer s line (Table name size)
+command_answer s line (Put name index value) = setting_answer s line (Put name index value)
+command_answer s line (Begin deadline at) = begin_answer s deadline (read_of s.names (program_bytes line at))
+command_answer s line (Step txn guard) = step_answer s txn (role_of guard)
+command_answer s line Run = run_answer s
+command_answer s line (Commit txn) = commit_answer s txn
+command_answer s line (Withdraw txn) = withdraw_answer s txn
+command_answer s line (Show txn) = show_answer s txn
+command_answer s line (Dump name) = dump_answer s (text_at line name)
+command_answer s line Seal = seal_answer s
+command_answer s line Drain = drain_answer s
+command_answer s line other = refused s 12
 
 -- the answer to a command of this line, or to a line that spells none
 abbrev pub answer_to : Script → List ℕ → Result Command ℕ → Answer
-answer_to s line (Ok Blank) = replied s []
-answer_to s line (Ok (Table name size)) = table_answer s (text_at line name) size
-answer_to s line (Ok (Begin deadline at)) = begin_answer s deadline (runnable (read_of s.names (program_bytes line at)))
-answer_to s line (Ok Run) = run_answer s s.forest
-answer_to s line (Ok (Commit txn)) = commit_answer s txn s.forest
-answer_to s line (Ok (Dump name)) = dump_answer s (text_at line name) (table_named s.names (text_at line name))
-answer_to s line (Ok other) = refused s 90
-answer_to s line (Err code) = refused s 90
+answer_to s line (Ok command) = command_answer s line command
+answer_to s line (Err code) = refused s code
 
 -- the answer to a line
 unfoldable pub answer : Script → List ℕ → Answer
-answer s line = if nat_lt 8192 (length line) then refused s 90 else answer_to s line (command_of dialect.Script line)
-
--- how many transactions were committed
-abbrev pub commits_in : Option ForestView → ℕ
-commits_in None = 0
-commits_in (Some f) = length (commits f.entries)
+answer s line = if nat_lt 8192 (length line) then refused s 11 else answer_to s line (spelled line)
 
 -- the lines at the end of the input
 unfoldable pub end_lines : Script → List ℕ
-end_lines s = final_lines (tables_of s) 0 s.names ++ number_line (codes "end ") (commits_in s.forest)
+end_lines s = final_lines s.forest.tables 0 s.names ++ number_line (codes "end ") (length (commits s.forest.journal))
 
 -- the script as a machine that answers lines
 abbrev pub meaning : Meaning Script

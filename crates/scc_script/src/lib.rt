@@ -1,12 +1,17 @@
 //! The script: each line of the input is a command, answered as it is read.
 #![tactic(auto)]
 
+mod events;
+mod laws;
 mod reply;
 mod run;
-mod runnable;
+mod setup;
+mod shown;
 mod state;
 mod status;
 
+pub use laws::always_sound;
 pub use run::script;
+pub use setup::{Setup, SetupRefusal};
 pub use state::ScriptState;
 pub use status::Status;

@@ -11,20 +11,22 @@ use std::sync::ledger::Ledger;
 use step_count::Steps;
 
 /// Answers each line of the source as it is read, and writes the final lines at its end.
-/// For now a transaction has one shadow, and one is under way at a time.
+/// A transaction has at most `k` shadows, 1 to 8, and at most `lanes` transactions are started at once, 1 to 64.
 pub fn script<S: Source, K: Sink, L: Ledger>(
     alloc: Global,
-    _k: u32,
-    _lanes: u32,
+    k: u32,
+    lanes: u32,
     source: &mut S,
     sink: &mut K,
     steps: &mut Steps<L>,
 ) -> Status
-    requires k { _k ≡ 1 }
-    requires lanes { _lanes ≡ 1 }
+    requires least { 1 ≤ k }
+    requires most { k ≤ 8 }
+    requires some { 1 ≤ lanes }
+    requires many { lanes ≤ 64 }
 
     // There are bytes that were read, and each end says what was written and how many steps were made.
-    ensures ran { (read : List ℕ) × ScriptRan result read (S.left source.old) (S.left source.new)
+    ensures ran { (read : List ℕ) × ScriptRan k lanes result read (S.left source.old) (S.left source.new)
         (K.written sink.old) (K.written sink.new) steps.old steps.new }
 
     // A fault comes only where its object has counted one.
@@ -33,7 +35,9 @@ pub fn script<S: Source, K: Sink, L: Ledger>(
     ensures source_later { S.faults source.old ≤ S.faults source.new }
     ensures sink_later { K.faults sink.old ≤ K.faults sink.new }
 {
-    let mut machine = ScriptState::new(alloc);
+    let Ok(mut machine) = ScriptState::new(alloc, k, lanes) else {
+        return Status::OutOfMemory;
+    };
     match answer_lines(alloc, &mut machine, source, sink, steps) {
         Ending::Done => Status::Done,
         Ending::ReadFault => Status::ReadFault,

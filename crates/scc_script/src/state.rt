@@ -1,64 +1,79 @@
-// The state of a script, and its answers to commands.
-ghost use Rattle.std.specs.Prelude.{◌≡◌, ◌≤◌, ◌<◌, ◌+◌, ℕ, List, ◌++◌, length, OnOk, IfOk, if◌then◌else◌};
-ghost use Rattle.txn_names.specs.Tables.{items_of, table_named};
-ghost use Rattle.txn_syntax.specs.Reads.{read_of};
-ghost use Rattle.scc_script.specs.Runnable.{runnable};
+// The state of a script, and its answers to lines.
+ghost use Rattle.std.specs.Prelude.{◌≡◌, ◌≤◌, ◌<◌, ◌+◌, ℕ, List, ◌++◌, length, IfOk, OnOk};
 ghost use Rattle.txn_runs.specs.Bounds.{reach};
-ghost use Rattle.shadow_forest.specs.Forest.{begun, next_txn, commit_refusal};
-ghost use Rattle.scc_script.specs.Text.{answer, end_lines, opening_script, table_answer, begin_answer, run_answer, commit_answer, dump_answer, may_begin, forest_after, commit_reply, zeros};
-ghost use Rattle.scc_script.specs.Reply.{refuse_line, begin_line};
+ghost use Rattle.txn_names.specs.Tables.{items_of};
+ghost use Rattle.txn_syntax.specs.Reads.{read_of};
+ghost use Rattle.journal_core.specs.Journal.{commits};
+ghost use Rattle.forest_model.specs.Events.{begin as begin_of};
+ghost use Rattle.scc_text.specs.Command.{IsInRange};
+ghost use Rattle.scc_text.specs.Words.{words_of};
+ghost use Rattle.shadow_forest.specs.View.{opened_view};
+ghost use Rattle.scc_script.specs.Opening.{IsSetting};
 ghost use Rattle.scc_script.specs.Finals.{final_lines};
+ghost use Rattle.scc_script.specs.Text as spec;
+ghost use Rattle.scc_script.specs.Text.{opening_script, setting_line, setting_answer, begin_answer, begun_answer, seal_answer, step_answer, run_answer, commit_answer, withdraw_answer, drain_answer, show_answer, dump_answer, command_answer, spelled, end_lines};
 
-use crate::reply::{put_begin, put_final, put_number_line, put_row, put_table};
-use crate::runnable::read_runnable;
+use crate::events::{begin_in, commit_in, drain_in, run_in, show_in, step_in, withdraw_in};
+use crate::reply::{
+    put_final, put_limit, put_number_line, put_refusal, put_refusal_at, put_row, put_table,
+    put_value,
+};
+use crate::setup::{Setup, SetupRefusal};
+use block_rule::Role;
 use item_table::Table;
-use journal_core::put_reply;
 use line_loop::Machine;
-use scc_text::{Command, Dialect, program_text, read_command};
-use shadow_forest::{BeginRefusal, CommitRefusal, Forest};
+use scc_text::{Command, Dialect, next_word, program_text, read_command};
+use shadow_forest::Forest;
 use std::alloc::{AllocError, Global};
 use std::marker::Model;
 use std::sync::ledger::Ledger;
 use step_count::Steps;
-use txn_syntax::{NameRefusal, Names, Program};
+use txn_syntax::{Names, Program, ReadRefusal, read_program};
 
-/// A script under way: the names of its tables, and its forest from the first transaction on.
+/// A script under way: its tables as they were before the first transaction, and its forest from the first transaction on.
 #[derive(Drop)]
 pub struct ScriptState {
     alloc: Global,
-    names: Names,
+    k: u32,
+    lanes: u32,
+    setup: Setup,
     forest: Option<Forest>,
 }
 
 impl Model for ScriptState {
-    ghost use Rattle.std.specs.Prelude.{◌≡◌};
+    ghost use Rattle.std.specs.Prelude.{is_some};
     ghost use Rattle.std.specs.Coded.{codes};
     ghost use Rattle.journal_core.specs.contracts.entry.Entry as entry;
-    ghost use Rattle.txn_names.specs.Tables.{items_of};
-    ghost use Rattle.scc_script.specs.Text.{Script, items_in};
+    ghost use Rattle.scc_script.specs.Text.{Script};
+    ghost use Rattle.scc_script.specs.Kept.{forest_in, IsKept};
 
     ghost Value = { Script };
 
     ghost coded = { Prim.hlevel (codes, entry.the_row.coded) };
 
-    ghost view = { λ s. record { names = s.names; forest = s.forest } };
+    ghost view = { λ s. record { names = s.setup.names; is_open = is_some s.forest; forest = forest_in s.k s.lanes s.setup.tables s.forest } };
 
-    ghost invariant = { λ s. items_in s.names s.forest ≡ items_of s.names };
+    ghost invariant = { λ s. IsKept s.k s.lanes s.setup.names (forest_in s.k s.lanes s.setup.tables s.forest) };
 }
 
-/// The number of a refusal for now, of any line that isn't of a form that is built.
-const UNBUILT: u64 = 90;
-
 impl ScriptState {
-    /// A script before its first line.
-    pub fn new(alloc: Global) -> ScriptState
-        ensures { result ≡ opening_script }
+    /// A script before its first line, for at most `k` shadows a transaction, 1 to 8, and at most `lanes` started transactions, 1
+    /// to 64.
+    pub fn new(alloc: Global, k: u32, lanes: u32) -> Result<ScriptState, AllocError>
+        requires least { 1 ≤ k }
+        requires most { k ≤ 8 }
+        requires some { 1 ≤ lanes }
+        requires many { lanes ≤ 64 }
+        ensures { IfOk result (λ s. s ≡ opening_script k lanes) }
     {
-        ScriptState {
+        let setup = Setup::new(alloc)?;
+        Ok(ScriptState {
             alloc,
-            names: Names::new(alloc),
+            k,
+            lanes,
+            setup,
             forest: None,
-        }
+        })
     }
 
     /// Answers a line: the reply is appended, and each step ticks.
@@ -70,61 +85,98 @@ impl ScriptState {
         steps: &mut Steps<L>,
     ) -> Result<(), AllocError>
         requires { length line.now ≤ 8192 }
-        ensures next { OnOk result (self.new ≡ (answer self.old line.now).next) }
-        ensures reply { OnOk result (out.new.items ≡ out.old.items ++ (answer self.old line.now).reply) }
-        ensures ticks { OnOk result (steps.new ≡ steps.old + (answer self.old line.now).ticks) }
-        ensures most { (steps.old ≤ steps.new) × (steps.new ≤ steps.old + (answer self.old line.now).ticks) }
+        ensures next { OnOk result (self.new ≡ (spec.answer self.old line.now).next) }
+        ensures reply { OnOk result (out.new.items ≡ out.old.items ++ (spec.answer self.old line.now).reply) }
+        ensures ticks { OnOk result (steps.new ≡ steps.old + (spec.answer self.old line.now).ticks) }
+        ensures most { (steps.old ≤ steps.new) × (steps.new ≤ steps.old + (spec.answer self.old line.now).ticks) }
     {
-        match read_command(Dialect::Script, line) {
-            Ok(Command::Blank) => Ok(()),
-            Ok(Command::Table { name, size }) => {
-                self.add_table(&line[name.from..name.to], size, out)
-            }
-            Ok(
-                Command::Begin {
-                    deadline,
-                    program_at,
-                },
-            ) => self.begin(deadline, program_text(line, program_at), out),
-            Ok(Command::Run) => self.run(out, steps),
-            Ok(Command::Commit { txn }) => self.commit(txn, out),
-            Ok(Command::Dump { name }) => self.dump(&line[name.from..name.to], out),
-            Ok(_) => put_refusal(out, UNBUILT),
-            Err(_) => put_refusal(out, UNBUILT),
+        match read_line(line) {
+            Ok(command) => self.answer_command(line, command, out, steps),
+            Err(code) => put_refusal(out, code),
         }
     }
 
-    fn add_table(&mut self, name: &[u8], size: u32, out: &mut Vec<u8>) -> Result<(), AllocError>
-        requires some { 1 ≤ size }
-        requires most { size ≤ 1024 }
-        ensures next { OnOk result (self.new ≡ (table_answer self.old name.now size).next) }
-        ensures reply { OnOk result (out.new.items ≡ out.old.items ++ (table_answer self.old name.now size).reply) }
-        ensures ticks { (table_answer self.old name.now size).ticks ≡ 0 }
+    fn answer_command<L: Ledger>(
+        &mut self,
+        line: &[u8],
+        command: Command,
+        out: &mut Vec<u8>,
+        steps: &mut Steps<L>,
+    ) -> Result<(), AllocError>
+        requires { IsInRange (length line.now) command }
+        ensures next { OnOk result (self.new ≡ (command_answer self.old line.now command).next) }
+        ensures reply { OnOk result (out.new.items ≡ out.old.items ++ (command_answer self.old line.now command).reply) }
+        ensures ticks { OnOk result (steps.new ≡ steps.old + (command_answer self.old line.now command).ticks) }
+        ensures most { (steps.old ≤ steps.new) × (steps.new ≤ steps.old + (command_answer self.old line.now command).ticks) }
+    {
+        match command {
+            Command::Blank => Ok(()),
+            Command::Table { .. } | Command::Put { .. } => self.set(line, &command, out),
+            Command::Begin {
+                deadline,
+                program_at,
+            } => self.begin(deadline, program_text(line, program_at), out),
+            Command::Step { txn, guard } => self.step(txn, role_of(guard), out, steps),
+            Command::Run => self.run(out, steps),
+            Command::Commit { txn } => self.commit(txn, out),
+            Command::Withdraw { txn } => self.withdraw(txn, out),
+            Command::Show { txn } => self.show(txn, out),
+            Command::Dump { name } => self.dump(&line[name.from..name.to], out),
+            Command::Seal => self.seal(out),
+            Command::Drain => self.drain(out, steps),
+            Command::Journal | Command::Report | Command::Ask { .. } | Command::Quit => {
+                put_refusal(out, 12)
+            }
+        }
+    }
+
+    // A `table` or `put` line.
+    fn set(&mut self, line: &[u8], command: &Command, out: &mut Vec<u8>) -> Result<(), AllocError>
+        requires { IsSetting (length line.now) command.now }
+        ensures next { OnOk result (self.new ≡ (setting_answer self.old line.now command.now).next) }
+        ensures reply { OnOk result (out.new.items ≡ out.old.items ++ (setting_answer self.old line.now command.now).reply) }
+        ensures ticks { (setting_answer self.old line.now command.now).ticks ≡ 0 }
     {
         if self.forest.is_some() {
-            return put_refusal(out, UNBUILT);
+            return put_refusal(out, 21);
         }
-        match self.names.add(name, size) {
-            Ok(_) => put_table(out, name, size),
-            Err(NameRefusal::OutOfMemory) => Err(AllocError),
-            Err(_) => put_refusal(out, UNBUILT),
+        match self.setup.accept(line, command) {
+            Ok(()) => put_setting(out, line, command),
+            Err(SetupRefusal::Code(code)) => put_refusal(out, code),
+            Err(SetupRefusal::OutOfMemory) => Err(AllocError),
         }
     }
 
     fn begin(&mut self, deadline: u64, bytes: &[u8], out: &mut Vec<u8>) -> Result<(), AllocError>
         requires { deadline ≤ 1000000000000 }
-        ensures next { OnOk result (self.new ≡ (begin_answer self.old deadline (runnable (read_of self.old.names bytes.now))).next) }
-        ensures reply { OnOk result (out.new.items ≡ out.old.items ++ (begin_answer self.old deadline (runnable (read_of self.old.names bytes.now))).reply) }
-        ensures ticks { (begin_answer self.old deadline (runnable (read_of self.old.names bytes.now))).ticks ≡ 0 }
+        ensures next { OnOk result (self.new ≡ (begin_answer self.old deadline (read_of self.old.names bytes.now)).next) }
+        ensures reply { OnOk result (out.new.items ≡ out.old.items ++ (begin_answer self.old deadline (read_of self.old.names bytes.now)).reply) }
+        ensures ticks { (begin_answer self.old deadline (read_of self.old.names bytes.now)).ticks ≡ 0 }
     {
-        let Some(program) = read_runnable(self.alloc, &self.names, bytes)? else {
-            return put_refusal(out, UNBUILT);
-        };
+        match read_program(self.alloc, self.setup.names(), bytes) {
+            Ok(program) => self.begin_program(program, deadline, out),
+            Err(ReadRefusal::Syntax { at }) => put_refusal_at(out, 14, at),
+            Err(ReadRefusal::UnknownTable { at }) => put_refusal_at(out, 16, at),
+            Err(ReadRefusal::Limit { which }) => put_limit(out, which),
+            Err(ReadRefusal::OutOfMemory) => Err(AllocError),
+        }
+    }
+
+    fn begin_program(
+        &mut self,
+        program: Program,
+        deadline: u64,
+        out: &mut Vec<u8>,
+    ) -> Result<(), AllocError>
+        requires fits { reach program ≤ items_of self.old.names }
+        requires deadline { deadline ≤ 1000000000000 }
+        ensures next { OnOk result (self.new ≡ (begun_answer self.old (begin_of self.old.forest program deadline)).next) }
+        ensures reply { OnOk result (out.new.items ≡ out.old.items ++ (begun_answer self.old (begin_of self.old.forest program deadline)).reply) }
+    {
         match &mut self.forest {
             Some(forest) => begin_in(forest, program, deadline, out),
             None => {
-                let tables = self.zeros()?;
-                let mut forest = Forest::open(self.alloc, tables, 1, 1)?;
+                let mut forest = open_forest(self.alloc, &self.setup, self.k, self.lanes)?;
                 begin_in(&mut forest, program, deadline, out)?;
                 self.forest = Some(forest);
                 Ok(())
@@ -132,24 +184,52 @@ impl ScriptState {
         }
     }
 
-    fn run<L: Ledger>(&mut self, out: &mut Vec<u8>, steps: &mut Steps<L>) -> Result<(), AllocError>
-        ensures next { OnOk result (self.new ≡ (run_answer self.old self.old.forest).next) }
-        ensures reply { OnOk result (out.new.items ≡ out.old.items ++ (run_answer self.old self.old.forest).reply) }
-        ensures ticks { steps.new ≡ steps.old + (run_answer self.old self.old.forest).ticks }
+    fn seal(&mut self, out: &mut Vec<u8>) -> Result<(), AllocError>
+        ensures next { OnOk result (self.new ≡ (seal_answer self.old).next) }
+        ensures reply { OnOk result (out.new.items ≡ out.old.items ++ (seal_answer self.old).reply) }
     {
         match &mut self.forest {
-            Some(forest) => {
-                let made = forest.run_idle(steps);
-                put_number_line(out, b"run ", made)
+            Some(forest) => forest.seal(),
+            None => {
+                let mut forest = open_forest(self.alloc, &self.setup, self.k, self.lanes)?;
+                forest.seal();
+                self.forest = Some(forest);
             }
+        }
+        out.extend_from_slice(b"seal\n")
+    }
+
+    fn step<L: Ledger>(
+        &mut self,
+        txn: u32,
+        role: Role,
+        out: &mut Vec<u8>,
+        steps: &mut Steps<L>,
+    ) -> Result<(), AllocError>
+        ensures next { OnOk result (self.new ≡ (step_answer self.old txn role).next) }
+        ensures reply { OnOk result (out.new.items ≡ out.old.items ++ (step_answer self.old txn role).reply) }
+        ensures ticks { steps.new ≡ steps.old + (step_answer self.old txn role).ticks }
+    {
+        match &mut self.forest {
+            Some(forest) => step_in(forest, txn, role, out, steps),
+            None => put_refusal(out, 25),
+        }
+    }
+
+    fn run<L: Ledger>(&mut self, out: &mut Vec<u8>, steps: &mut Steps<L>) -> Result<(), AllocError>
+        ensures next { OnOk result (self.new ≡ (run_answer self.old).next) }
+        ensures reply { OnOk result (out.new.items ≡ out.old.items ++ (run_answer self.old).reply) }
+        ensures ticks { steps.new ≡ steps.old + (run_answer self.old).ticks }
+    {
+        match &mut self.forest {
+            Some(forest) => run_in(forest, out, steps),
             None => put_number_line(out, b"run ", 0),
         }
     }
 
     fn commit(&mut self, txn: u32, out: &mut Vec<u8>) -> Result<(), AllocError>
-        ensures next { OnOk result (self.new ≡ (commit_answer self.old txn self.old.forest).next) }
-        ensures reply { OnOk result (out.new.items ≡ out.old.items ++ (commit_answer self.old txn self.old.forest).reply) }
-        ensures ticks { (commit_answer self.old txn self.old.forest).ticks ≡ 0 }
+        ensures next { OnOk result (self.new ≡ (commit_answer self.old txn).next) }
+        ensures reply { OnOk result (out.new.items ≡ out.old.items ++ (commit_answer self.old txn).reply) }
     {
         match &mut self.forest {
             Some(forest) => commit_in(forest, txn, out),
@@ -157,26 +237,69 @@ impl ScriptState {
         }
     }
 
-    fn dump(&self, name: &[u8], out: &mut Vec<u8>) -> Result<(), AllocError>
-        ensures { OnOk result (out.new.items ≡ out.old.items ++ (dump_answer self.now name.now (table_named self.now.names name.now)).reply) }
+    fn withdraw(&mut self, txn: u32, out: &mut Vec<u8>) -> Result<(), AllocError>
+        ensures next { OnOk result (self.new ≡ (withdraw_answer self.old txn).next) }
+        ensures reply { OnOk result (out.new.items ≡ out.old.items ++ (withdraw_answer self.old txn).reply) }
     {
-        let Some(table) = self.names.find(name) else {
-            return put_refusal(out, UNBUILT);
-        };
-        match &self.forest {
-            Some(forest) => put_row(out, name, forest.table().row(table.base, table.size)),
-            None => {
-                let zeros = self.zeros()?;
-                put_row(out, name, zeros.row(table.base, table.size))
-            }
+        match &mut self.forest {
+            Some(forest) => withdraw_in(forest, txn, out),
+            None => put_refusal(out, 25),
         }
     }
 
-    // The committed tables before the first transaction.
-    fn zeros(&self) -> Result<Table, AllocError>
-        ensures { IfOk result (λ table. table ≡ zeros self.now.names) }
+    fn drain<L: Ledger>(
+        &mut self,
+        out: &mut Vec<u8>,
+        steps: &mut Steps<L>,
+    ) -> Result<(), AllocError>
+        ensures next { OnOk result (self.new ≡ (drain_answer self.old).next) }
+        ensures reply { OnOk result (out.new.items ≡ out.old.items ++ (drain_answer self.old).reply) }
+        ensures ticks { OnOk result (steps.new ≡ steps.old + (drain_answer self.old).ticks) }
+        ensures most { (steps.old ≤ steps.new) × (steps.new ≤ steps.old + (drain_answer self.old).ticks) }
     {
-        Table::new(self.alloc, self.names.items())
+        match &mut self.forest {
+            Some(forest) => drain_in(forest, out, steps),
+            None => put_number_line(out, b"drain ", 0),
+        }
+    }
+
+    fn show(&self, txn: u32, out: &mut Vec<u8>) -> Result<(), AllocError>
+        ensures { OnOk result (out.new.items ≡ out.old.items ++ (show_answer self.now txn).reply) }
+    {
+        match &self.forest {
+            Some(forest) => show_in(forest, self.setup.names(), txn, out),
+            None => put_refusal(out, 25),
+        }
+    }
+
+    fn dump(&self, name: &[u8], out: &mut Vec<u8>) -> Result<(), AllocError>
+        ensures { OnOk result (out.new.items ≡ out.old.items ++ (dump_answer self.now name.now).reply) }
+    {
+        let Some(table) = self.setup.names().find(name) else {
+            return put_refusal(out, 22);
+        };
+        put_row(out, name, self.tables().row(table.base, table.size))
+    }
+
+    // The present tables.
+    fn tables(&self) -> &Table
+        ensures values { result.now ≡ self.now.forest.tables }
+        ensures items { length result.now ≡ items_of self.now.names }
+    {
+        match &self.forest {
+            Some(forest) => forest.table(),
+            None => self.setup.table(),
+        }
+    }
+
+    // How many transactions were committed.
+    fn commits(&self) -> u32
+        ensures { result ≡ length (commits self.now.forest.journal) }
+    {
+        match &self.forest {
+            Some(forest) => forest.journal().commits(),
+            None => 0,
+        }
     }
 
     /// Appends the lines at the end of the input.
@@ -184,66 +307,65 @@ impl ScriptState {
     pub fn put_end(&self, out: &mut Vec<u8>) -> Result<(), AllocError>
         ensures { OnOk result (out.new.items ≡ out.old.items ++ end_lines self.now) }
     {
-        match &self.forest {
-            Some(forest) => {
-                put_finals(&self.names, forest.table(), out)?;
-                put_number_line(out, b"end ", forest.commits() as u64)
-            }
-            None => {
-                let zeros = self.zeros()?;
-                put_finals(&self.names, &zeros, out)?;
-                put_number_line(out, b"end ", 0)
-            }
+        put_finals(self.setup.names(), self.tables(), out)?;
+        put_number_line(out, b"end ", self.commits() as u64)
+    }
+}
+
+// The command that a line spells; `journal` is none of a script yet.
+fn read_line(line: &[u8]) -> Result<Command, u8>
+    requires { length line.now ≤ 8192 }
+    ensures command { result ≡ spelled line.now }
+    ensures ranges { IfOk result (IsInRange (length line.now)) }
+{
+    if is_unbuilt(line) {
+        return Err(12);
+    }
+    read_command(Dialect::Script, line)
+}
+
+fn is_unbuilt(line: &[u8]) -> bool
+    ensures { result ≡ spec.is_unbuilt (words_of line.now) }
+{
+    match next_word(line, 0) {
+        Some(word) => &line[word.from..word.to] == b"journal".as_slice(),
+        None => false,
+    }
+}
+
+// Without a guard the optimistic shadow is meant.
+fn role_of(guard: Option<u32>) -> Role
+    ensures { result ≡ spec.role_of guard }
+{
+    match guard {
+        Some(guard) => Role::Guard(guard),
+        None => Role::Optimistic,
+    }
+}
+
+// A forest over the tables as they were put.
+fn open_forest(alloc: Global, setup: &Setup, k: u32, lanes: u32) -> Result<Forest, AllocError>
+    requires least { 1 ≤ k }
+    requires most { k ≤ 8 }
+    requires some { 1 ≤ lanes }
+    requires many { lanes ≤ 64 }
+    ensures { IfOk result (λ f. f ≡ opened_view setup.now.tables k lanes) }
+{
+    Forest::open(alloc, setup.table().copy()?, k, lanes)
+}
+
+// The reply to a `table` or `put` line that was accepted.
+fn put_setting(out: &mut Vec<u8>, line: &[u8], command: &Command) -> Result<(), AllocError>
+    requires { IsSetting (length line.now) command.now }
+    ensures { OnOk result (out.new.items ≡ out.old.items ++ setting_line line.now command.now) }
+{
+    match *command {
+        Command::Table { name, size } => put_table(out, &line[name.from..name.to], size),
+        Command::Put { name, index, value } => {
+            put_value(out, &line[name.from..name.to], index, value)
         }
+        _ => Ok(()),
     }
-}
-
-// Begins a transaction, where one may begin.
-fn begin_in(
-    forest: &mut Forest,
-    program: Program,
-    deadline: u64,
-    out: &mut Vec<u8>,
-) -> Result<(), AllocError>
-    requires fits { reach program ≤ length forest.old.tables }
-    requires deadline { deadline ≤ 1000000000000 }
-    ensures next { OnOk result (forest.new ≡ (if may_begin forest.old then begun program deadline forest.old else forest.old)) }
-    ensures reply { OnOk result (out.new.items ≡ out.old.items ++ (if may_begin forest.old then begin_line (next_txn forest.old) else refuse_line 90)) }
-    ensures items { length forest.new.tables ≡ length forest.old.tables }
-{
-    if !forest.is_idle() {
-        return put_refusal(out, UNBUILT);
-    }
-    match forest.begin(program, deadline) {
-        Ok(txn) => put_begin(out, txn),
-        Err(BeginRefusal::Sealed) => put_refusal(out, UNBUILT),
-        Err(BeginRefusal::TooMany) => put_refusal(out, UNBUILT),
-        Err(BeginRefusal::OutOfMemory) => Err(AllocError),
-    }
-}
-
-// Commits a transaction, where its run has ended.
-#[tactic(auto, using(crate::proofs::Laid::length_over))]
-fn commit_in(forest: &mut Forest, txn: u32, out: &mut Vec<u8>) -> Result<(), AllocError>
-    ensures next { OnOk result (forest.new ≡ forest_after forest.old txn (commit_refusal forest.old txn)) }
-    ensures reply { OnOk result (out.new.items ≡ out.old.items ++ commit_reply forest.old txn (commit_refusal forest.old txn)) }
-    ensures items { length forest.new.tables ≡ length forest.old.tables }
-{
-    match forest.commit(txn) {
-        Ok(()) => match forest.outcome_of(txn) {
-            Some(outcome) => put_reply(txn, outcome, out),
-            None => unreachable!(),
-        },
-        Err(CommitRefusal::Unknown) => put_refusal(out, 25),
-        Err(CommitRefusal::NotStarted) => put_refusal(out, 26),
-        Err(CommitRefusal::NotEnded) => put_refusal(out, 30),
-    }
-}
-
-fn put_refusal(out: &mut Vec<u8>, code: u64) -> Result<(), AllocError>
-    ensures { OnOk result (out.new.items ≡ out.old.items ++ refuse_line code) }
-{
-    put_number_line(out, b"refuse ", code)
 }
 
 // Appends the last values of each table.
@@ -259,11 +381,11 @@ fn put_finals(names: &Names, tables: &Table, out: &mut Vec<u8>) -> Result<(), Al
 }
 
 impl Machine for ScriptState {
-    ghost next = { λ s line. (answer s line).next };
+    ghost next = { λ s line. (spec.answer s line).next };
 
-    ghost reply = { λ s line. (answer s line).reply };
+    ghost reply = { λ s line. (spec.answer s line).reply };
 
-    ghost ticks = { λ s line. (answer s line).ticks };
+    ghost ticks = { λ s line. (spec.answer s line).ticks };
 
     ghost ending = { λ s. end_lines s };
 
@@ -278,7 +400,7 @@ impl Machine for ScriptState {
 
     #[tactic(auto, using(crate::proofs::Long::too_long))]
     fn answer_too_long(&mut self, out: &mut Vec<u8>) -> Result<(), AllocError> {
-        put_refusal(out, UNBUILT)
+        put_refusal(out, 11)
     }
 
     fn finish(&self, out: &mut Vec<u8>) -> Result<(), AllocError> {

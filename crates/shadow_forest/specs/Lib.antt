@@ -1,2 +1,5 @@
-pub mod Forest
-pub mod Sound
+pub mod View
+pub mod Answers
+pub mod Parts
+pub mod Kept
+pub mod Ready

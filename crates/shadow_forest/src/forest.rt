@@ -1,157 +1,228 @@
-ghost use Rattle.std.specs.Prelude.{◌≡◌, ◌+◌, ◌≤◌, ◌<◌, ◌↔◌, ℕ, true, false, None, Some, length, option_map, option_copied, IsOk, IsTrue, IfOk, IfErr, OnOk, OnErr};
+ghost use Rattle.std.specs.Prelude.{◌≡◌, ◌+◌, ◌≤◌, ◌<◌, ◌↔◌, ℕ, true, false, None, Some, Err, length, map, slice_get, option_map, IsOk, IsTrue, is_ok, IfOk, IfErr, IfSome, OnOk, OnErr};
+ghost use Rattle.std.specs.List.{AllByRecursion};
 ghost use Rattle.txn_runs.specs.Bounds.{reach};
-ghost use Rattle.journal_core.specs.Journal.{began, commits, is_live, is_sealed, committed_of};
+ghost use Rattle.txn_runs.specs.Serial.{outcome_of};
+ghost use Rattle.txn_interp.specs.State.{IsRun};
+ghost use Rattle.journal_core.specs.Journal.{began, is_live, is_sealed, program_of, committed_of};
+ghost use Rattle.block_rule.specs.declared.role.Role.TheVariants.{Optimistic, Guard};
+ghost use Rattle.forest_model.specs.Forest.{Started, find_started, length_of, is_ended};
+ghost use Rattle.forest_model.specs.Told.{looks};
+ghost use Rattle.forest_model.specs.Runs.{is_done as is_done_of};
+ghost use Rattle.forest_model.specs.Sound.{IsSound};
+ghost use Rattle.forest_model.specs.Events.{begin as begin_of, seal as seal_of, step as step_of, commit as commit_of, withdraw as withdraw_of, step_role, committed};
+ghost use Rattle.forest_model.specs.Drain.{after_step, run_idle as run_idle_of, drain_step as drain_step_of};
+ghost use Rattle.forest_model.specs.Jobs.{recall as recall_of};
+ghost use Rattle.shadow_forest.specs.View.{View, opened_view, with_numbers, commit_view, withdraw_view, drain_step_view, drain_view, told_commit};
+ghost use Rattle.shadow_forest.specs.Answers.{begin_refusal, step_answer, step_ticks, commit_refusal, withdraw_refusal, did_ticks, life_of, resumed_pair, looks_of, outs, IsWithin};
+ghost use Rattle.shadow_forest.specs.declared.answers.BeginRefusal.TheVariants.{Sealed, TooMany};
+ghost use Rattle.shadow_forest.specs.declared.answers.ShadowView.{ShadowView as ShadowViewOf};
+ghost use Rattle.shadow_forest.specs.Parts.{slot_of};
 
-use crate::refusal::{BeginRefusal, CommitRefusal};
-use crate::shadow::{lay_effect, run_to_end};
+use crate::answers::{
+    BeginRefusal, CommitRefusal, Life, Resumed, ShadowView, Stepped, WithdrawRefusal,
+};
+use crate::committing::{cut_others, start_waiting};
+use crate::picking::{pick, role_at};
+use crate::priority::first_ended;
+use crate::settling::{renew, renew_all, wanted_at};
+use crate::txn::{Txn, code_of};
+use block_rule::{Role, Standing, status};
+use forest_model::Did;
 use item_table::Table;
 use journal_core::{Entry, Journal};
+use shadow_lanes::Lanes;
 use std::alloc::{AllocError, Global};
 use std::marker::Model;
 use std::sync::ledger::Ledger;
 use step_count::Steps;
-use txn_code::{Code, link};
-use txn_interp::State;
+use txn_code::link;
+use txn_interp::Kind;
 use txn_runs::{Outcome, Program};
 
 /// How many transactions may begin.
 const MOST_TRANSACTIONS: u32 = 20_000;
 
-/// Transactions over tables. Always: the journal is legal, the present tables are those after its committed programs were run
-/// alone, one after another, and the state of the started transaction is its program's run from the start over the present
-/// tables, stopped at its position.
+/// Transactions that run as shadows. Contracts see it in numbers: the journal, the present tables, and where the shadows of the
+/// started transactions stand. Always: the forest is sound, and each shadow's state is its program's run from the start over the
+/// present tables, stopped at its position.
 #[derive(Drop)]
 pub struct Forest {
     alloc: Global,
-    k: u32,
-    lanes: u32,
     journal: Journal,
     tables: Table,
-    code: Code,
-    state: State,
-    started: Option<u32>,
+    txns: Vec<Txn>,
+    waiting: Vec<u32>,
+    lanes: Lanes,
+    resumed: Vec<Resumed>,
+    starts: Option<u32>,
 }
 
 impl Model for Forest {
+    ghost use Rattle.std.specs.Prelude.{map, length, ◌≤◌};
+    ghost use Rattle.std.specs.Vec.{vec_capacity};
     ghost use Rattle.std.specs.Coded.{codes};
     ghost use Rattle.journal_core.specs.contracts.entry.Entry as entry;
-    ghost use Rattle.shadow_forest.specs.Forest.{ForestView};
+    ghost use Rattle.shadow_forest.specs.View.{View};
+    ghost use Rattle.shadow_forest.specs.Answers.{resumed_pair};
+    ghost use Rattle.shadow_forest.specs.Kept.{forest_of, IsForest};
 
-    ghost Value = { ForestView };
+    ghost Value = { View };
 
     ghost coded = { Prim.hlevel (codes, entry.the_row.coded) };
 
-    ghost use Rattle.shadow_forest.specs.Sound.{seen, IsForest};
+    ghost view = { λ f. record {
+      numbers = forest_of f.journal f.tables f.lanes;
+      resumed = map resumed_pair f.resumed.items;
+      starts = f.starts;
+    } };
 
-    ghost view = { λ f. seen f.k f.lanes f.journal f.tables f.started f.state };
-
-    ghost invariant = { λ f. IsForest (seen f.k f.lanes f.journal f.tables f.started f.state) f.journal.spare f.code.nodes f.state f.started };
+    ghost invariant = { λ f. IsForest f.journal f.tables f.txns.items f.waiting.items f.lanes × (f.lanes.lanes ≤ vec_capacity f.resumed) };
 }
 
 impl Forest {
-    ghost use Rattle.shadow_forest.specs.Forest.{opened, begun, ran, steps_left, committed, next_txn, is_started, commit_refusal, serial_tables, reply_in, ended as ended_of};
-    ghost use Rattle.shadow_forest.specs.Sound.{IsSound};
-    ghost use Rattle.shadow_forest.specs.declared.refusal.BeginRefusal.TheVariants.{Sealed, TooMany};
-
-    /// A forest over these tables, in which nothing began. For now with one lane and one shadow a transaction.
+    /// A forest over these tables, in which nothing began, for at most `k` shadows a transaction, 1 to 8, and at most `lanes` started
+    /// transactions, 1 to 64. Takes the memory for all states.
     pub fn open(alloc: Global, table: Table, k: u32, lanes: u32) -> Result<Forest, AllocError>
-        requires shadows { k ≡ 1 }
-        requires lanes { lanes ≡ 1 }
-        ensures { IfOk result (λ f. f ≡ opened table k lanes) }
+        requires least { 1 ≤ k }
+        requires most { k ≤ 8 }
+        requires some { 1 ≤ lanes }
+        requires lanes { lanes ≤ 64 }
+        ensures { IfOk result (λ f. f ≡ opened_view table k lanes) }
     {
-        let state = State::room(alloc, table.len())?;
-        let code = Code::room(alloc)?;
+        let items = table.len();
+        let lines = Lanes::open(alloc, items, k, lanes)?;
         let opening = table.copy()?;
         let mut journal = Journal::new(alloc, opening);
         journal.reserve(1)?;
+        let resumed = Vec::with_capacity(alloc, lanes as usize)?;
         Ok(Forest {
             alloc,
-            k,
-            lanes,
             journal,
             tables: table,
-            code,
-            state,
-            started: None,
+            txns: Vec::new(alloc),
+            waiting: Vec::new(alloc),
+            lanes: lines,
+            resumed,
+            starts: None,
         })
     }
 
     /// How many shadows a transaction has, at most.
     pub fn k(&self) -> u32
-        ensures { result ≡ self.now.k }
+        ensures k { result ≡ self.now.numbers.k }
+        ensures least { 1 ≤ result }
+        ensures most { result ≤ 8 }
     {
-        self.k
+        // the limits come with the number of the started
+        let _ = self.lanes.len();
+        self.lanes.most()
     }
 
     /// How many transactions are started at once, at most.
     pub fn lanes(&self) -> u32
-        ensures { result ≡ self.now.lanes }
+        ensures lanes { result ≡ self.now.numbers.lanes }
+        ensures some { 1 ≤ result }
+        ensures many { result ≤ 64 }
     {
-        self.lanes
+        // the limits come with the number of the started
+        let _ = self.lanes.len();
+        self.lanes.lanes()
     }
 
     /// The present tables: those after the committed programs were run alone, one after another.
     pub fn table(&self) -> &Table
-        ensures value { result.now ≡ self.now.tables }
-        ensures serial { result.now ≡ serial_tables self.now }
+        ensures { result.now ≡ self.now.numbers.tables }
     {
         &self.tables
     }
 
+    /// What happened since the forest was opened. By the type the forest is sound, each program fits the tables, and each deadline
+    /// is within its limit.
     pub fn journal(&self) -> &Journal
-        ensures opening { result.now.opening ≡ self.now.opening }
-        ensures entries { result.now.entries ≡ self.now.entries }
-        ensures sound { IsSound self.now }
+        ensures opening { result.now.opening ≡ self.now.numbers.opening }
+        ensures entries { result.now.entries ≡ self.now.numbers.journal }
+        ensures sound { IsSound self.now.numbers }
+        ensures items { length self.now.numbers.tables ≡ length self.now.numbers.opening }
+        ensures within { AllByRecursion (IsWithin (length self.now.numbers.opening)) self.now.numbers.journal }
     {
         &self.journal
     }
 
-    /// How many transactions were committed.
-    pub fn commits(&self) -> u32
-        ensures { result ≡ length (commits self.now.entries) }
+    /// Whom the last accepted commit or withdrawal took back, in the order of numbers.
+    pub fn resumed(&self) -> &[Resumed]
+        ensures { map resumed_pair result.now ≡ self.now.resumed }
     {
-        self.journal.commits()
+        &self.resumed
     }
 
-    /// The outcome that a transaction was committed with, if it was.
-    pub fn outcome_of(&self, txn: u32) -> Option<&Outcome>
-        ensures { option_copied result ≡ committed_of self.now.entries txn }
+    /// Whom the last accepted commit or withdrawal started, if it did.
+    pub fn started(&self) -> Option<u32>
+        ensures { result ≡ self.now.starts }
     {
-        self.journal.outcome_of(txn)
+        self.starts
     }
 
-    /// The live transaction, if there is one.
-    pub fn live(&self) -> Option<u32>
-        ensures started { result ≡ option_map (λ s. s.txn) self.now.started }
-        ensures live { (t : ℕ) → is_live self.now.entries t ≡ is_started self.now t }
+    /// The started transaction at a place, from 0, in the order of numbers.
+    pub fn started_at(&self, place: u32) -> Option<u32>
+        ensures { result ≡ option_map (λ (r : Started). r.number) (slice_get self.now.numbers.started place) }
     {
-        self.started
+        if place < self.lanes.len() {
+            Some(self.lanes.number(place))
+        } else {
+            None
+        }
     }
 
-    /// Whether no transaction is live.
-    pub fn is_idle(&self) -> bool
-        ensures { IsTrue result ↔ (self.now.started ≡ None) }
+    /// How a transaction stands.
+    pub fn life(&self, txn: u32) -> Life
+        ensures { result ≡ life_of self.now.numbers txn }
     {
-        self.started.is_none()
+        if !self.journal.live(txn) {
+            Life::Unknown
+        } else if self.lanes.find(txn).is_some() {
+            Life::Started
+        } else {
+            Life::Waiting
+        }
     }
 
-    /// Whether a transaction is started and stands at the end of its run.
-    pub fn ended(&self, txn: u32) -> bool
-        ensures { result ≡ ended_of self.now txn }
+    /// How many shadows a transaction has; 0 where it is not started.
+    pub fn shadows(&self, txn: u32) -> u32
+        ensures { result ≡ length (looks_of self.now.numbers txn) }
     {
-        self.started == Some(txn) && self.state.ended()
+        // the limits come with the number of the started
+        let _ = self.lanes.len();
+        match self.lanes.find(txn) {
+            None => 0,
+            Some(place) => self.lanes.conflicts(place).len() as u32 + 1,
+        }
     }
 
-    /// Begins a transaction, starts it, and answers its number. Takes the memory for its whole life.
+    /// A shadow of a transaction; place 0 is the optimistic one. Its state is its program's run from the start over the present
+    /// tables, stopped at its position. None exactly where there are not so many.
+    pub fn shadow(&self, txn: u32, place: u32) -> Option<ShadowView<'_>>
+        ensures look { option_map (λ (v : ShadowViewOf). (v.role, (v.position, (v.point, v.standing)))) result ≡ slice_get (looks_of self.now.numbers txn) place }
+        ensures out { option_map (λ (v : ShadowViewOf). v.out) result ≡ slice_get (outs (find_started self.now.numbers.started txn)) place }
+        ensures position { IfSome result (λ v. v.position ≡ v.state.now.position) }
+        ensures runs { IfSome result (λ v. IsRun (program_of self.now.numbers.journal txn) self.now.numbers.tables v.state.now) }
+    {
+        match self.lanes.find(txn) {
+            None => None,
+            Some(at) => self.view(at, place),
+        }
+    }
+
+    /// Begins a transaction and answers its number: it is started where a lane is free, and waits else. Takes the memory for its
+    /// whole life. A refusal leaves all as it was; want of memory comes last.
     pub fn begin(&mut self, program: Program, deadline: u64) -> Result<u32, BeginRefusal>
-        requires fits { reach program ≤ length self.old.tables }
+        requires fits { reach program ≤ length self.old.numbers.tables }
         requires deadline { deadline ≤ 1000000000000 }
-        requires idle { self.old.started ≡ None }
-        ensures number { IfOk result (λ txn. txn ≡ next_txn self.old) }
-        ensures begun { OnOk result (self.new ≡ begun program deadline self.old) }
+        ensures number { IfOk result (λ txn. txn ≡ began self.old.numbers.journal + 1) }
+        ensures accepted { OnOk result (begin_refusal (begin_of self.old.numbers program deadline) ≡ None) }
+        ensures next { OnOk result (self.new ≡ with_numbers (after_step self.old.numbers (begin_of self.old.numbers program deadline)) self.old) }
         ensures refused { OnErr result (self.new ≡ self.old) }
-        ensures sealed { (result ≡ Err Sealed) ↔ (is_sealed self.old.entries ≡ true) }
-        ensures too_many { (result ≡ Err TooMany) ↔ (is_sealed self.old.entries ≡ false) × (began self.old.entries ≡ 20000) }
+        ensures sealed { (result ≡ Err Sealed) ↔ (begin_refusal (begin_of self.old.numbers program deadline) ≡ Some Sealed) }
+        ensures too_many { (result ≡ Err TooMany) ↔ (begin_refusal (begin_of self.old.numbers program deadline) ≡ Some TooMany) }
     {
         if self.journal.sealed() {
             return Err(BeginRefusal::Sealed);
@@ -159,76 +230,305 @@ impl Forest {
         if self.journal.began() == MOST_TRANSACTIONS {
             return Err(BeginRefusal::TooMany);
         }
-        match self.start(program, deadline) {
+        match self.enter(program, deadline) {
             Ok(txn) => Ok(txn),
             Err(_) => Err(BeginRefusal::OutOfMemory),
         }
     }
 
-    fn start(&mut self, program: Program, deadline: u64) -> Result<u32, AllocError>
-        requires fits { reach program ≤ length self.old.tables }
+    /// From now on no transaction may begin or be withdrawn.
+    pub fn seal(&mut self)
+        ensures { self.new ≡ with_numbers (seal_of self.old.numbers) self.old }
+    {
+        if !self.journal.sealed() {
+            self.journal.push_reserved(Entry::Sealed);
+        }
+    }
+
+    /// A shadow makes a step over the present tables, and is not out; after a step of the optimistic one the forest is settled. It
+    /// ticks once; a refused one changes nothing and ticks nothing.
+    pub fn step<L: Ledger>(&mut self, txn: u32, role: Role, steps: &mut Steps<L>) -> Stepped
+        ensures answer { result ≡ step_answer (step_of self.old.numbers txn role) }
+        ensures next { self.new ≡ with_numbers (after_step self.old.numbers (step_of self.old.numbers txn role)) self.old }
+        ensures ticks { steps.new ≡ steps.old + step_ticks (step_of self.old.numbers txn role) }
+    {
+        if !self.journal.live(txn) {
+            return Stepped::Unknown;
+        }
+        match (self.lanes.find(txn), role) {
+            (None, _) => Stepped::NotStarted,
+            (Some(place), Role::Optimistic) => self.step_optimistic(place, txn, steps),
+            (Some(place), Role::Guard(guard)) => self.step_waiting(place, txn, guard, steps),
+        }
+    }
+
+    /// Commits a transaction whose optimistic shadow has run to its end. Takes no memory and no step. A refused one changes nothing.
+    pub fn commit(&mut self, txn: u32) -> Result<(), CommitRefusal>
+        ensures accepted { IsOk result ↔ (commit_refusal (commit_of self.old.numbers txn) ≡ None) }
+        ensures refusal { IfErr result (λ e. commit_refusal (commit_of self.old.numbers txn) ≡ Some e) }
+        ensures next { self.new ≡ commit_view self.old txn }
+        ensures reply { OnOk result (committed_of self.new.numbers.journal txn ≡ Some (outcome_of (program_of self.old.numbers.journal txn) self.old.numbers.tables)) }
+        ensures never_refused { (u : Started) → is_live self.old.numbers.journal txn ≡ true → find_started self.old.numbers.started txn ≡ Some u → u.position ≡ length_of self.old.numbers u → IsOk result }
+    {
+        if !self.journal.live(txn) {
+            return Err(CommitRefusal::Unknown);
+        }
+        match self.lanes.find(txn) {
+            None => Err(CommitRefusal::NotStarted),
+            Some(place) => {
+                if !self.lanes.state(place, 0).ended() {
+                    return Err(CommitRefusal::NotEnded);
+                }
+                self.finish(place, txn);
+                Ok(())
+            }
+        }
+    }
+
+    /// Withdraws a live transaction. The tables stay; its lane, if it held one, is given to the first that waits. A refused one
+    /// changes nothing.
+    pub fn withdraw(&mut self, txn: u32) -> Result<(), WithdrawRefusal>
+        ensures accepted { IsOk result ↔ (withdraw_refusal (withdraw_of self.old.numbers txn) ≡ None) }
+        ensures refusal { IfErr result (λ e. withdraw_refusal (withdraw_of self.old.numbers txn) ≡ Some e) }
+        ensures next { self.new ≡ withdraw_view self.old txn }
+    {
+        if !self.journal.live(txn) {
+            return Err(WithdrawRefusal::Unknown);
+        }
+        if self.journal.sealed() {
+            return Err(WithdrawRefusal::Sealed);
+        }
+        self.leave(txn);
+        Ok(())
+    }
+
+    /// Nothing is out any more.
+    pub fn recall(&mut self)
+        ensures { self.new ≡ with_numbers (recall_of self.old.numbers) self.old }
+    {
+        self.lanes.recall();
+    }
+
+    /// Makes steps of the pick until there is none, and answers how many. Each ticks once.
+    pub fn run_idle<L: Ledger>(&mut self, steps: &mut Steps<L>) -> u64
+        ensures made { result ≡ (run_idle_of self.old.numbers).0 }
+        ensures next { self.new ≡ with_numbers (run_idle_of self.old.numbers).1 self.old }
+        ensures ticks { steps.new ≡ steps.old + result }
+    {
+        // with these limits the steps can be counted
+        let _ = (self.k(), self.lanes());
+        let mut made = 0;
+        loop {
+            match pick(&self.lanes, &self.txns) {
+                None => return made,
+                Some(row) => {
+                    self.step(row.txn, row.role, steps);
+                    made += 1;
+                }
+            }
+        }
+    }
+
+    /// Commits the first transaction by priority whose optimistic shadow has ended; where there is none, makes a step of the pick;
+    /// where there is none either, does nothing.
+    pub fn drain_step<L: Ledger>(&mut self, steps: &mut Steps<L>) -> Did
+        ensures did { result ≡ (drain_step_of self.old.numbers).0 }
+        ensures next { self.new ≡ drain_step_view self.old }
+        ensures ticks { steps.new ≡ steps.old + did_ticks result }
+    {
+        match first_ended(&self.lanes, &self.txns) {
+            Some(txn) => {
+                let _accepted = self.commit(txn);
+                Did::Committed { txn }
+            }
+            None => match pick(&self.lanes, &self.txns) {
+                Some(row) => {
+                    self.step(row.txn, row.role, steps);
+                    Did::Stepped {
+                        txn: row.txn,
+                        role: row.role,
+                    }
+                }
+                None => Did::Nothing,
+            },
+        }
+    }
+
+    /// Calls all home, and then commits and makes steps until nothing is left to do. Afterwards no transaction is live.
+    pub fn drain<L: Ledger>(&mut self, steps: &mut Steps<L>)
+        ensures next { self.new ≡ (drain_view self.old).1 }
+        ensures empty { (t : ℕ) → is_live self.new.numbers.journal t ≡ false }
+        ensures ticks { steps.new ≡ steps.old + (drain_view self.old).0 }
+    {
+        // the limits come with the number of the started: there is a lane, so nobody waits for ever
+        let _ = self.lanes.len();
+        self.recall();
+        loop {
+            if matches!(self.drain_step(steps), Did::Nothing) {
+                return;
+            }
+        }
+    }
+
+    // The shadow in a slot of the transaction at a place.
+    fn view(&self, at: u32, slot: u32) -> Option<ShadowView<'_>>
+        requires { at < length self.now.numbers.started }
+        ensures look { (r : Started) → slice_get self.now.numbers.started at ≡ Some r → option_map (λ (v : ShadowViewOf). (v.role, (v.position, (v.point, v.standing)))) result ≡ slice_get (looks self.now.numbers (Some r)) slot }
+        ensures out { (r : Started) → slice_get self.now.numbers.started at ≡ Some r → option_map (λ (v : ShadowViewOf). v.out) result ≡ slice_get (outs (Some r)) slot }
+        ensures position { IfSome result (λ v. v.position ≡ v.state.now.position) }
+        ensures runs { (r : Started) → slice_get self.now.numbers.started at ≡ Some r → IfSome result (λ v. IsRun (program_of self.now.numbers.journal r.number) self.now.numbers.tables v.state.now) }
+    {
+        if slot as usize > self.lanes.conflicts(at).len() {
+            return None;
+        }
+        let (role, point) = role_at(&self.lanes, at, slot);
+        let state = self.lanes.state(at, slot);
+        Some(ShadowView {
+            role,
+            position: state.position(),
+            point,
+            standing: status(role, state.position(), point, state.ended()),
+            out: self.lanes.out(at, slot),
+            state,
+        })
+    }
+
+    // Begins a transaction where one may begin.
+    fn enter(&mut self, program: Program, deadline: u64) -> Result<u32, AllocError>
+        requires fits { reach program ≤ length self.old.numbers.tables }
         requires deadline { deadline ≤ 1000000000000 }
-        requires idle { self.old.started ≡ None }
-        requires open { is_sealed self.old.entries ≡ false }
-        requires few { began self.old.entries < 20000 }
-        ensures number { IfOk result (λ txn. txn ≡ next_txn self.old) }
-        ensures begun { OnOk result (self.new ≡ begun program deadline self.old) }
+        requires open { is_sealed self.old.numbers.journal ≡ false }
+        requires few { began self.old.numbers.journal < 20000 }
+        ensures number { IfOk result (λ txn. txn ≡ began self.old.numbers.journal + 1) }
+        ensures next { OnOk result (self.new ≡ with_numbers (after_step self.old.numbers (begin_of self.old.numbers program deadline)) self.old) }
         ensures refused { OnErr result (self.new ≡ self.old) }
     {
         let code = link(self.alloc, &program)?;
-        self.journal.reserve(3)?;
+        let live = self.lanes.len() + self.waiting.len() as u32;
+        self.journal.reserve(live + 3)?;
+        self.txns.reserve(1)?;
+        self.waiting.reserve(1)?;
         let txn = self.journal.began() + 1;
-        self.state.reset(&code);
-        self.code = code;
+        if self.lanes.len() < self.lanes.lanes() {
+            self.lanes.start(txn, &code);
+        } else {
+            self.waiting.push_reserved(txn);
+        }
+        self.txns.push_reserved(Txn { deadline, code });
         self.journal.push_reserved(Entry::Began {
             txn,
             deadline,
             program,
         });
-        self.started = Some(txn);
         Ok(txn)
     }
 
-    /// Runs the started transaction to its end, if there is one, and answers how many steps this took. Each ticks once.
-    pub fn run_idle<L: Ledger>(&mut self, steps: &mut Steps<L>) -> u64
-        ensures ran { self.new ≡ ran self.old }
-        ensures made { result ≡ steps_left self.old }
-        ensures ticks { steps.new ≡ steps.old + result }
+    // The optimistic shadow of the transaction at a place makes a step, unless it has ended.
+    fn step_optimistic<L: Ledger>(&mut self, place: u32, txn: u32, steps: &mut Steps<L>) -> Stepped
+        requires place { (r : Started) × (slice_get self.old.numbers.started place ≡ Some r) × (find_started self.old.numbers.started txn ≡ Some r) }
+        ensures answer { (r : Started) → find_started self.old.numbers.started txn ≡ Some r → result ≡ step_answer (step_role self.old.numbers Optimistic r) }
+        ensures next { (r : Started) → find_started self.old.numbers.started txn ≡ Some r → self.new ≡ with_numbers (after_step self.old.numbers (step_role self.old.numbers Optimistic r)) self.old }
+        ensures ticks { (r : Started) → find_started self.old.numbers.started txn ≡ Some r → steps.new ≡ steps.old + step_ticks (step_role self.old.numbers Optimistic r) }
     {
-        match self.started {
-            None => 0,
-            Some(_) => run_to_end(&mut self.state, &self.code, &self.tables, steps),
+        let code = code_of(&self.txns, txn);
+        let state = self.lanes.state(place, 0);
+        let position = state.position() + 1;
+        match state.next_kind(code) {
+            Kind::Ended => return Stepped::Ended,
+            Kind::Local => self.lanes.step(place, 0, code, &self.tables, steps),
+            Kind::TableRead { item } => {
+                let conflicts = wanted_at(&self.lanes, place, Some(item));
+                renew(&mut self.lanes, place, conflicts.as_slice(), code);
+                self.lanes.step(place, 0, code, &self.tables, steps)
+            }
+            Kind::Write { .. } => {
+                self.lanes.step(place, 0, code, &self.tables, steps);
+                renew_all(&mut self.lanes, &self.txns)
+            }
+        }
+        Stepped::Stepped { position }
+    }
+
+    // The shadow of the transaction at a place that waits for this guard makes a step, if there is one that may.
+    fn step_waiting<L: Ledger>(
+        &mut self,
+        place: u32,
+        txn: u32,
+        guard: u32,
+        steps: &mut Steps<L>,
+    ) -> Stepped
+        requires place { (r : Started) × (slice_get self.old.numbers.started place ≡ Some r) × (find_started self.old.numbers.started txn ≡ Some r) }
+        ensures answer { (r : Started) → find_started self.old.numbers.started txn ≡ Some r → result ≡ step_answer (step_role self.old.numbers (Guard guard) r) }
+        ensures next { (r : Started) → find_started self.old.numbers.started txn ≡ Some r → self.new ≡ with_numbers (after_step self.old.numbers (step_role self.old.numbers (Guard guard) r)) self.old }
+        ensures ticks { (r : Started) → find_started self.old.numbers.started txn ≡ Some r → steps.new ≡ steps.old + step_ticks (step_role self.old.numbers (Guard guard) r) }
+    {
+        let Some(slot) = slot_for(self.lanes.conflicts(place), guard) else {
+            return Stepped::NoShadow;
+        };
+        let (_, point) = self.lanes.conflicts(place)[slot as usize - 1];
+        let position = self.lanes.state(place, slot).position();
+        match status(Role::Guard(guard), position, Some(point), false) {
+            Standing::Runnable => {
+                let code = code_of(&self.txns, txn);
+                self.lanes.step(place, slot, code, &self.tables, steps);
+                Stepped::Stepped {
+                    position: position + 1,
+                }
+            }
+            _ => Stepped::Blocked,
         }
     }
 
-    /// Commits a transaction whose run has ended: its outcome is recorded, and where it is done its writes are laid over the
-    /// tables. Takes no memory and no step. A refused one leaves all as it was.
-    pub fn commit(&mut self, txn: u32) -> Result<(), CommitRefusal>
-        ensures accepted { IsOk result ↔ (commit_refusal self.old txn ≡ None) }
-        ensures refusal { IfErr result (λ e. commit_refusal self.old txn ≡ Some e) }
-        ensures committed { OnOk result (self.new ≡ committed txn self.old) }
-        ensures refused { OnErr result (self.new ≡ self.old) }
-        ensures reply { OnOk result (committed_of self.new.entries txn ≡ Some (reply_in self.old txn)) }
-        ensures never_refused { IsTrue (ended_of self.old txn) → IsOk result }
+    // Commits the transaction at a place, whose optimistic shadow has run to its end.
+    fn finish(&mut self, place: u32, txn: u32)
+        requires place { (u : Started) × (slice_get self.old.numbers.started place ≡ Some u) × (find_started self.old.numbers.started txn ≡ Some u) × (is_ended self.old.numbers u ≡ true) }
+        ensures { (u : Started) → find_started self.old.numbers.started txn ≡ Some u → self.new ≡ told_commit self.old txn (committed self.old.numbers u) }
     {
-        if self.started != Some(txn) {
-            return Err(CommitRefusal::Unknown);
+        let state = self.lanes.state(place, 0);
+        let outcome = state.outcome();
+        self.resumed.clear();
+        if is_done(&outcome) {
+            state.writes().lay_over(&mut self.tables);
+            cut_others(&mut self.lanes, place, &self.txns, &mut self.resumed);
         }
-        if !self.state.ended() {
-            return Err(CommitRefusal::NotEnded);
-        }
-        self.finish(txn);
-        Ok(())
-    }
-
-    fn finish(&mut self, txn: u32)
-        requires { IsTrue (ended_of self.old txn) }
-        ensures { self.new ≡ committed txn self.old }
-    {
-        let outcome = self.state.outcome();
-        lay_effect(&self.state, &outcome, &mut self.tables);
         self.journal
             .push_reserved(Entry::Committed { txn, outcome });
-        self.started = None;
+        self.lanes.remove(txn);
+        self.starts = start_waiting(&mut self.lanes, &mut self.waiting, &self.txns);
+        renew_all(&mut self.lanes, &self.txns);
     }
+
+    // Withdraws a live transaction.
+    fn leave(&mut self, txn: u32)
+        requires live { is_live self.old.numbers.journal txn ≡ true }
+        requires open { is_sealed self.old.numbers.journal ≡ false }
+        ensures { self.new ≡ withdraw_view self.old txn }
+    {
+        self.resumed.clear();
+        self.journal.push_reserved(Entry::Withdrawn { txn });
+        self.lanes.remove(txn);
+        self.waiting.retain(|other| *other != txn);
+        self.starts = start_waiting(&mut self.lanes, &mut self.waiting, &self.txns);
+        renew_all(&mut self.lanes, &self.txns);
+    }
+}
+
+// The slot of the shadow for this guard, if there is one.
+fn slot_for(conflicts: &[(u32, u32)], guard: u32) -> Option<u32>
+    requires { length conflicts.now ≤ 7 }
+    ensures { result ≡ slot_of conflicts.now guard }
+{
+    for i in 0..conflicts.len() {
+        if conflicts[i].0 == guard {
+            return Some(i as u32 + 1);
+        }
+    }
+    None
+}
+
+// Whether a run was neither failed nor faulted.
+fn is_done(outcome: &Outcome) -> bool
+    ensures { result ≡ is_done_of outcome.now }
+{
+    matches!(outcome, Outcome::Done { .. })
 }

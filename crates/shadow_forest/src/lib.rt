@@ -1,11 +1,16 @@
 //! Transactions that run as shadows, and commit in one serial order.
 #![tactic(auto)]
 
+mod answers;
+mod committing;
 mod forest;
-mod laws;
-mod refusal;
-mod shadow;
+mod picking;
+mod priority;
+mod settling;
+mod txn;
 
+pub use answers::{
+    BeginRefusal, CommitRefusal, Life, Resumed, ShadowView, Stepped, WithdrawRefusal,
+};
 pub use forest::Forest;
-pub use laws::{commits_record, soundness};
-pub use refusal::{BeginRefusal, CommitRefusal};
+pub use forest_model::Did;

@@ -1,0 +1,76 @@
+-- What a step of an optimistic shadow changes of what is wanted.
+use Rattle.std.proofs.Common.{◌≡◌, ◌≢◌, ℕ, suc, ◌+◌, ◌<◌, ◌==◌, min, List, [], ◌∷◌, ◌++◌, map, is_some, Option, Some, None, refl, ap, sym, subst, ◌∙◌, arith, eq-eqb, true≢false}
+use Rattle.std.specs.Prelude.{if◌then◌else◌}
+use Rattle.std.specs.List.{AllByRecursion}
+use Rattle.std.proofs.lemmas.Bool.{cases_Bool, cond_both}
+use Rattle.txn_runs.specs.Run.{Tables, Read, Writes, own, stored, after}
+use Rattle.txn_runs.specs.Kind.{kind_of, Changes}
+use Rattle.txn_runs.specs.declared.kind.Kind.TheVariants.{Local, TableRead, Write}
+use Rattle.txn_runs.specs.declared.program.Program.{Program}
+use Rattle.txn_runs.proofs.Stepping.{after_changes}
+use Rattle.forest_model.specs.Runs.{reads, writes}
+use Rattle.forest_model.specs.Choose.{less_or}
+use Rattle.forest_model.specs.Point.{is_changed, point, wanted_of}
+use Rattle.forest_model.specs.Forest.{Started, Forest, reads_of, writes_of, conflict_at, against, wanted}
+use Rattle.forest_model.proofs.Lists.{either, filter_map-map, filter_map-agree, all-weaken}
+use Rattle.shadow_forest.specs.Parts.{point_with}
+
+-- The point after one read more.
+
+less_small : (n m : ℕ) → n < m → min m n ≡ n
+less_small n m h = omega (arith, h)
+
+point_cons : (x : Read) (ws : Writes) (rs : List Read) → point (x ∷ rs) ws ≡ (if is_changed ws x then Some (less_or (point rs ws) x.0) else point rs ws)
+point_cons x ws rs = either (cases_Bool (is_changed ws x)) (λ e. rw e refl) (λ e. rw e refl)
+
+with_less : (item position : ℕ) (ws : Writes) (o : Option ℕ) (n : ℕ) → n < position → less_or (point_with (Some item) position ws o) n ≡ less_or o n
+with_less item position ws None n lt =
+    cond_both {A = Option ℕ} (is_some (own ws item)) (Some position) None (λ o. less_or o n ≡ n) (λ e. less_small n position lt) (λ e. refl)
+with_less item position ws (Some m) n lt = refl
+
+-- a read behind all others gives the point where there was none, if its item was written
+pub point_push : (item position : ℕ) (v : _) (ws : Writes) (rs : List Read) → AllByRecursion (λ (r : Read). r.0 < position) rs → point (rs ++ (position, item, v) ∷ []) ws ≡ point_with (Some item) position ws (point rs ws)
+point_push item position v ws [] h =
+    point_cons (position, item, v) ws []
+point_push item position v ws (x ∷ rs) h =
+    point_cons x ws (rs ++ (position, item, v) ∷ [])
+    ∙ ap (λ o. if is_changed ws x then Some (less_or o x.0) else o) (point_push item position v ws rs h.1)
+    ∙ cond_both {A = Option ℕ} (is_changed ws x) (Some (less_or (point_with (Some item) position ws (point rs ws)) x.0)) (point_with (Some item) position ws (point rs ws))
+    (λ o. o ≡ point_with (Some item) position ws (if is_changed ws x then Some (less_or (point rs ws) x.0) else point rs ws))
+    (λ e. rw e (ap Some (with_less item position ws (point rs ws) x.0 h.0)))
+    (λ e. rw e refl)
+    ∙ sym (ap (point_with (Some item) position ws) (point_cons x ws rs))
+
+-- What each kind of step changes.
+
+one_step : (p : Program) (d : Tables) (n : ℕ) → Changes (kind_of (after p d n)) d n (after p d n) (after p d (suc n))
+one_step p d n = let e : n + 1 ≡ suc n = omega arith in subst (λ m. Changes (kind_of (after p d n)) d n (after p d n) (after p d m)) e (after_changes p d n)
+
+pub local_step : (p : Program) (d : Tables) (n : ℕ) → kind_of (after p d n) ≡ Local → (reads p d (suc n) ≡ reads p d n) × (writes p d (suc n) ≡ writes p d n)
+local_step p d n kind = subst (λ k. Changes k d n (after p d n) (after p d (suc n))) kind (one_step p d n)
+
+pub read_step : (p : Program) (d : Tables) (n item : ℕ) → kind_of (after p d n) ≡ TableRead item → (reads p d (suc n) ≡ reads p d n ++ (n, item, stored d item) ∷ []) × (writes p d (suc n) ≡ writes p d n)
+read_step p d n item kind = subst (λ k. Changes k d n (after p d n) (after p d (suc n))) kind (one_step p d n)
+
+pub write_step : (p : Program) (d : Tables) (n item : ℕ) (v : _) → kind_of (after p d n) ≡ Write item v → reads p d (suc n) ≡ reads p d n
+write_step p d n item v kind = (subst (λ k. Changes k d n (after p d n) (after p d (suc n))) kind (one_step p d n)).0
+
+-- What is wanted, after a change that keeps the numbers.
+
+pub wants_same : (f : Forest) (m : Started → Started) (y : Started) → ((x : Started) → (m x).number ≡ x.number) → reads_of f (m y) ≡ reads_of f y
+    → AllByRecursion (λ (u : Started). u.number ≢ y.number → writes_of f (m u) ≡ writes_of f u) f.started → wanted (record f { started = map m f.started }) (m y) ≡ wanted f y
+wants_same f m y counts rs ws =
+    ap (λ pairs. wanted_of pairs f.k)
+    (filter_map-map (against (record f { started = map m f.started }) (m y)) m f.started
+    ∙ filter_map-agree (λ u. against (record f { started = map m f.started }) (m y) (m u)) (against f y) f.started
+    (all-weaken (λ (u : Started). u.number ≢ y.number → writes_of f (m u) ≡ writes_of f u) (λ u. against (record f { started = map m f.started }) (m y) (m u) ≡ against f y u)
+    (λ u of_u. pair u of_u) f.started ws))
+  where
+    pair : (u : Started) → (u.number ≢ y.number → writes_of f (m u) ≡ writes_of f u) → against (record f { started = map m f.started }) (m y) (m u) ≡ against f y u
+    pair u of_u =
+        either (cases_Bool (u.number == y.number))
+        (λ e. rw (counts u, counts y, e) refl)
+        (λ e.
+        let apart : u.number ≢ y.number = (λ q. true≢false (sym (eq-eqb _ _ q) ∙ e)) in
+        let points : point (reads_of f (m y)) (writes_of f (m u)) ≡ point (reads_of f y) (writes_of f u) = rw (rs, of_u apart) refl in
+        ap (λ p. if (m u).number == (m y).number then None else conflict_at (m u).number p) points ∙ rw (counts u, counts y) refl)

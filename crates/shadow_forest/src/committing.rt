@@ -1,0 +1,65 @@
+// What a commit does to the others, and who starts.
+ghost use Rattle.std.specs.Prelude.{◌≡◌, ◌<◌, ◌≤◌, ◌++◌, ◌+◌, None, Some, length, map, filter_map, slice_get};
+ghost use Rattle.std.specs.List.{AllByRecursion};
+ghost use Rattle.std.specs.Vec.{vec_capacity};
+ghost use Rattle.shadow_lanes.specs.Seats.{Seat, find_seat};
+ghost use Rattle.shadow_forest.specs.Parts.{seat_after, taken_back, next_of, seats_with_some, still_waiting};
+ghost use Rattle.shadow_forest.specs.Answers.{resumed_pair};
+ghost use Rattle.shadow_forest.specs.Ready.{AreCarried, IsCarried};
+
+use crate::answers::Resumed;
+use crate::priority::first_waiting;
+use crate::txn::{Txn, code_of};
+use commit_rule::cut;
+use shadow_lanes::Lanes;
+
+/// Cuts the others by the writes of the transaction at a place, and tells whom that takes back.
+pub(crate) fn cut_others(lanes: &mut Lanes, of: u32, txns: &[Txn], resumed: &mut Vec<Resumed>)
+    requires of { of < length lanes.old.seats }
+    requires carried { AreCarried lanes.old.items txns.now lanes.old.seats }
+    requires room { length resumed.old.items + length lanes.old.seats ≤ vec_capacity resumed.old }
+    ensures seats { (u : Seat) → slice_get lanes.old.seats of ≡ Some u → lanes.new ≡ record lanes.old { seats = map (seat_after lanes.old.items txns.now u) lanes.old.seats } }
+    ensures resumed { (u : Seat) → slice_get lanes.old.seats of ≡ Some u → map resumed_pair resumed.new.items ≡ map resumed_pair resumed.old.items ++ filter_map (taken_back lanes.old.items txns.now u) lanes.old.seats }
+    ensures capacity { vec_capacity resumed.new ≡ vec_capacity resumed.old }
+{
+    let committed = lanes.number(of);
+    for place in 0..lanes.len() {
+        let number = lanes.number(place);
+        if number != committed {
+            match cut(lanes.state(place, 0).reads(), lanes.state(of, 0).writes()) {
+                None => {}
+                Some(at) => {
+                    lanes.promote(place, at, code_of(txns, number));
+                    let position = lanes.state(place, 0).position();
+                    resumed.push_reserved(Resumed {
+                        txn: number,
+                        position,
+                    });
+                }
+            }
+        }
+    }
+}
+
+/// Starts the first that waits, where a lane is free, and answers who it is.
+pub(crate) fn start_waiting(lanes: &mut Lanes, waiting: &mut Vec<u32>, txns: &[Txn]) -> Option<u32>
+    requires carried { AllByRecursion (IsCarried lanes.old.items txns.now) waiting.old.items }
+    requires apart { AllByRecursion (λ t. find_seat lanes.old.seats t ≡ None) waiting.old.items }
+    ensures next { result ≡ next_of txns.now (length lanes.old.seats) lanes.old.lanes waiting.old.items }
+    ensures lanes { lanes.new ≡ record lanes.old { seats = seats_with_some txns.now lanes.old.items result lanes.old.seats } }
+    ensures waiting { waiting.new.items ≡ still_waiting result waiting.old.items }
+    ensures capacity { vec_capacity waiting.new ≡ vec_capacity waiting.old }
+{
+    if lanes.len() == lanes.lanes() {
+        return None;
+    }
+    let next = first_waiting(waiting, txns);
+    match next {
+        None => {}
+        Some(txn) => {
+            waiting.retain(|other| *other != txn);
+            lanes.start(txn, code_of(txns, txn));
+        }
+    }
+    next
+}

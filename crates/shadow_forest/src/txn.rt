@@ -1,0 +1,28 @@
+ghost use Rattle.std.specs.Prelude.{◌≡◌, ◌≤◌, length};
+ghost use Rattle.shadow_forest.specs.Parts.{nodes_at, deadline_at};
+
+use txn_code::Code;
+
+/// What is kept of a transaction that began.
+#[derive(Drop)]
+pub(crate) struct Txn {
+    pub(crate) deadline: u64,
+    pub(crate) code: Code,
+}
+
+/// The code of a transaction, of which number 1 stands first.
+pub(crate) fn code_of(txns: &[Txn], txn: u32) -> &Code
+    requires least { 1 ≤ txn }
+    requires most { txn ≤ length txns.now }
+    ensures { result.now.nodes ≡ nodes_at txns.now txn }
+{
+    &txns[txn as usize - 1].code
+}
+
+pub(crate) fn deadline_of(txns: &[Txn], txn: u32) -> u64
+    requires least { 1 ≤ txn }
+    requires most { txn ≤ length txns.now }
+    ensures { result ≡ deadline_at txns.now txn }
+{
+    txns[txn as usize - 1].deadline
+}
