@@ -1,20 +1,19 @@
 -- A drain under way: what is done so far and what is left are the whole drain.
-use Rattle.std.proofs.Common.{◌≡◌, ◌≢◌, ℕ, zero, suc, ◌+◌, ◌<◌, ◌≤◌, ◌++◌, Bool, true, false, not, ◌&&◌, ◌==◌, List, [], ◌∷◌, length, Option, Some, None, refl, ap, sym, ◌∙◌, subst, arith, append-nil, append_assoc, length-append}
+use Rattle.std.proofs.Common.{◌≡◌, ℕ, zero, suc, ◌+◌, ◌<◌, ◌≤◌, ◌++◌, Bool, true, false, not, ◌&&◌, ◌==◌, List, [], ◌∷◌, length, Option, Some, None, refl, ap, sym, ◌∙◌, subst, arith, append-nil, append_assoc, length-append}
 use Rattle.txn_runs.specs.Serial.{outcome_of}
 use Rattle.block_rule.specs.declared.role.Role.{Role}
 use Rattle.block_rule.specs.declared.role.Row.{Row}
-use Rattle.journal_core.specs.Journal.{has_begun, has_ended, is_live, program_of, commits, commit_in, committed_of}
+use Rattle.journal_core.specs.Journal.{has_begun, has_ended, is_live, program_of, commits, committed_of}
 use Rattle.journal_core.specs.declared.entry.Entry.{Entry}
 use Rattle.journal_core.specs.declared.entry.Entry.TheVariants.{Committed as CommittedEntry}
 use Rattle.journal_core.proofs.Legal.{commits-push}
 use Rattle.journal_core.proofs.Standing.{committed-new, unended}
-use Rattle.forest_model.specs.Forest.{Started, Forest, program, is_ended, find_started}
+use Rattle.forest_model.specs.Forest.{Started, Forest, is_ended, find_started}
 use Rattle.forest_model.specs.Start.{next_to_start}
 use Rattle.forest_model.specs.Sound.{IsSound}
 use Rattle.forest_model.specs.Pick.{pick}
 use Rattle.forest_model.specs.Events.{others_cut, laid, committed, commit}
-use Rattle.forest_model.specs.Drain.{step_row, first_ended, after_commit, drain_by, drain_step, drain_from, drain_within, left}
-use Rattle.forest_model.specs.declared.did.Did.{Did}
+use Rattle.forest_model.specs.Drain.{first_ended, after_commit, drain_by, drain_step, drain_from, drain_within, left}
 use Rattle.forest_model.specs.declared.did.Did.TheVariants.{Committed, Stepped, Nothing}
 use Rattle.forest_model.proofs.Lists.{all-found}
 use Rattle.forest_model.proofs.StartedLaws.{found-number}

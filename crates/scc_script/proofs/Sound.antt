@@ -1,5 +1,5 @@
 -- The forest of a script is sound after any lines.
-use Rattle.std.proofs.Common.{◌≡◌, ℕ, Bool, true, false, nat_lt, if◌then◌else◌, List, [], ◌∷◌, length, Option, Some, None, Result, Ok, Err}
+use Rattle.std.proofs.Common.{ℕ, Bool, true, false, nat_lt, if◌then◌else◌, List, [], ◌∷◌, length, Result, Ok, Err}
 use Rattle.line_loop.specs.Meaning.{machine_after}
 use Rattle.scc_text.specs.declared.command.Command.{Command}
 use Rattle.scc_text.specs.declared.command.Command.TheVariants.{Blank, Table, Put, Begin, Step, Run, Commit, Withdraw, Show, Dump, Seal, Drain, Journal, Report, Ask, Quit}
@@ -20,7 +20,7 @@ use Rattle.forest_model.proofs.DrainLaws.{drain_within-is}
 use Rattle.forest_model.proofs.WorldLaws.{opened-fit}
 use Rattle.std.specs.Result.{IfOk}
 use Rattle.scc_script.specs.Opening.{Opening, opening_after}
-use Rattle.scc_script.specs.Text.{Script, Answer, refused, setting_line, set_by, opening_of, begin_answer, command_answer, spelled, answer_to, answer, meaning, opening_script, role_of}
+use Rattle.scc_script.specs.Text.{Script, refused, setting_line, set_by, opening_of, begin_answer, command_answer, spelled, answer_to, answer, meaning, opening_script, role_of}
 
 step-keeps : (f : Forest) (result : Result (ℕ × Forest) Refusal) → IsSound f → IfOk result (λ a. IsSound a.1) → IsSound (after_step f result)
 step-keeps f (Ok moved) h is = is

@@ -9,6 +9,8 @@ mod setup;
 mod shown;
 mod state;
 mod status;
+#[cfg(test)]
+mod tests;
 
 pub use laws::always_sound;
 pub use run::script;

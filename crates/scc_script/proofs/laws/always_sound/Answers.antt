@@ -1,4 +1,3 @@
-use Rattle.std.proofs.Common.{◌≡◌}
 use Rattle.line_loop.specs.Meaning.{machine_after}
 use Rattle.journal_core.proofs.Legal.{replies-serial}
 use Rattle.scc_script.specs.Text.{Script, meaning, opening_script}
