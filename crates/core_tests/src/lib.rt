@@ -5,5 +5,3 @@
 mod runs;
 #[cfg(test)]
 mod tests;
-#[cfg(test)]
-mod walk;

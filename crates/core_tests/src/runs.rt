@@ -4,9 +4,9 @@ ghost use Rattle.txn_runs.specs.Bounds.{reach};
 ghost use Rattle.txn_code.specs.Nodes.{nodes_of};
 ghost use Rattle.txn_interp.specs.State.{Runs};
 
-use crate::walk::{Walk, walk_program};
 use item_table::Table;
 use journal_core::put_reply;
+use plain_walk::{is_same, walk_program};
 use std::alloc::{AllocError, Global};
 use std::sync::ledger::{Blank, Ledger};
 use std::test::Fail;
@@ -52,53 +52,6 @@ pub fn begin(alloc: Global, program: &Program, code: &Code, items: u32) -> Resul
     Ok(state)
 }
 
-/// Whether the state is where the walk is.
-pub fn same(state: &State, walk: &Walk) -> bool {
-    state.position() == walk.made
-        && state.ended() != walk.cut
-        && state.emits().as_slice() == walk.emits.as_slice()
-        && same_registers(state, walk)
-        && same_reads(state, walk)
-        && same_writes(state, walk)
-}
-
-fn same_registers(state: &State, walk: &Walk) -> bool {
-    for n in 0..16u8 {
-        if state.reg(n) != walk.registers[n as usize] {
-            return false;
-        }
-    }
-    true
-}
-
-fn same_reads(state: &State, walk: &Walk) -> bool {
-    let log = state.reads();
-    if log.len() as usize != walk.reads.len() {
-        return false;
-    }
-    for i in 0..log.len() {
-        if walk.reads.get(i as usize) != Some(&log.nth(i)) {
-            return false;
-        }
-    }
-    true
-}
-
-fn same_writes(state: &State, walk: &Walk) -> bool {
-    let set = state.writes();
-    let mut found = 0u32;
-    for item in 0..set.room() {
-        let written = set.get(item);
-        if written.is_some() {
-            found = found.wrapping_add(1);
-        }
-        if walk.writes.get(item as usize).copied() != Some(written) {
-            return false;
-        }
-    }
-    found == set.len()
-}
-
 /// How a run has ended: the reads in its log, and its commit line. What it has written is laid over the tables,
 /// where it is done.
 pub fn settle(
@@ -133,7 +86,7 @@ fn goes_on<L: Ledger>(
     ensures room { state.new.log.room ≡ length tables.now }
 {
     for n in state.position()..until {
-        if n <= 300 && !same(state, &walk_program(alloc, program, tables, n)?) {
+        if n <= 300 && !is_same(state, &walk_program(alloc, program, tables, n)?) {
             return Ok(false);
         }
         if !step_once(state, code, tables, steps) {
@@ -141,7 +94,7 @@ fn goes_on<L: Ledger>(
         }
     }
     let last = walk_program(alloc, program, tables, until)?;
-    Ok(same(state, &last))
+    Ok(is_same(state, &last))
 }
 
 /// Runs a program, which ends after so many steps: the reads in its log, and its commit line. None where it doesn't end there,

@@ -1,4 +1,4 @@
-// A plain interpreter, slow and apart from linked code: it walks the statements of a program from its start.
+// The plain interpreter: it walks the statements of a program from its start.
 use item_table::Table;
 use std::alloc::{AllocError, Global};
 use txn_runs::{Cmp, End, FaultKind, Op, Operand, Program, Stmt, TableRef};
@@ -13,9 +13,12 @@ pub struct Walk {
     pub cut: bool,
     pub registers: [i64; 16],
     tables: Vec<i64>,
+    /// What it has written to each item.
     pub writes: Vec<Option<i64>>,
+    /// The position, the item and the value of each first read of an item that it hadn't written.
     pub reads: Vec<(u32, u32, i64)>,
     pub emits: Vec<i64>,
+    /// Whether it has failed or faulted.
     pub end: End,
 }
 

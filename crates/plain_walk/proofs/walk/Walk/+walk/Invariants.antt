@@ -1,5 +1,5 @@
 use Rattle.std.proofs.Common.{◌+◌, ◌*◌}
-use Rattle.core_tests.proofs.walk.Walk.+walk.Given as goal
+use Rattle.plain_walk.proofs.walk.Walk.+walk.Given as goal
 
 abbrev pub decreases-block : goal.decreases-block
 decreases-block l = 2 * l.depth + 1

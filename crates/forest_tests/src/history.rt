@@ -1,0 +1,187 @@
+// Worked histories as data, and how they are played on a forest.
+ghost use Rattle.std.specs.Prelude.{◌≡◌};
+
+use crate::opening::{begin, one_table, open_forest};
+use crate::watch::is_right;
+use block_rule::{Role, Standing};
+use journal_core::{Entry, put_reply};
+use shadow_forest::{
+    BeginRefusal, CommitRefusal, Did, Forest, Life, Resumed, Stepped, WithdrawRefusal,
+};
+use std::alloc::{AllocError, Global};
+use std::sync::ledger::{Blank, Ledger};
+use std::test::Fail;
+use step_count::Steps;
+use txn_names::Names;
+
+/// A shadow as it must be shown: its role, its position, its point and its standing.
+pub type Look = (Role, u32, Option<u32>, Standing);
+
+/// What is done to a forest, and what must come of it.
+pub enum Act {
+    /// A program with this deadline begins, and is started or waits.
+    Begin(u32, &'static str, Life),
+    NoBegin(BeginRefusal),
+    Seal,
+    /// A step, and the position after it.
+    Step(u32, Role, u32),
+    NoStep(u32, Role, Stepped),
+    /// A commit, with its reply, whom it takes back and to where, and whom it starts.
+    Commit(u32, &'static str, &'static [Resumed], Option<u32>),
+    NoCommit(u32, CommitRefusal),
+    /// A withdrawal, and whom it starts.
+    Withdraw(u32, Option<u32>),
+    NoWithdraw(u32, WithdrawRefusal),
+    /// So many steps are made until there is no pick.
+    Run(u64),
+    DrainStep(Did, Option<u32>),
+    Drain,
+    /// The shadows of a transaction.
+    Show(u32, &'static [Look]),
+    Lives(u32, Life),
+}
+
+/// A forest with these values at its opening, what is done to it, and the values and the order of commits at the end.
+pub struct History {
+    pub name: &'static str,
+    pub k: u32,
+    pub lanes: u32,
+    pub opening: [i64; 4],
+    pub acts: &'static [Act],
+    pub last: [i64; 4],
+    pub order: &'static [u32],
+}
+
+/// The place of the first act of which something else comes, and the number of acts where only the end is wrong.
+pub fn first_wrong<L: Ledger>(
+    blank: Blank,
+    alloc: Global,
+    history: &History,
+) -> Result<Option<usize>, Fail>
+    requires name { blank.name ≡ L.name }
+    requires parts { blank.parts ≡ L.parts }
+    requires one { blank.parts ≡ 1 }
+{
+    let names = one_table(alloc)?;
+    let mut steps = Steps::<L>::new(blank);
+    let Some(mut forest) = open_forest(alloc, &history.opening, history.k, history.lanes)? else {
+        return Ok(Some(0));
+    };
+    for place in 0..history.acts.len() {
+        let act = &history.acts[place];
+        if !does(alloc, &names, &mut forest, act, &mut steps)? || !is_right(alloc, &forest)? {
+            return Ok(Some(place));
+        }
+    }
+    if forest.table().row(0, forest.table().len()) != history.last.as_slice()
+        || commits(alloc, &forest)?.as_slice() != history.order
+    {
+        return Ok(Some(history.acts.len()));
+    }
+    Ok(None)
+}
+
+// The committed transactions in their order.
+fn commits(alloc: Global, forest: &Forest) -> Result<Vec<u32>, AllocError> {
+    let journal = forest.journal();
+    let mut order = Vec::new(alloc);
+    for place in 0..journal.len() {
+        if let Entry::Committed { txn, .. } = journal.entry(place) {
+            order.push(*txn)?;
+        }
+    }
+    Ok(order)
+}
+
+// Whether what must come of an act comes of it.
+fn does<L: Ledger>(
+    alloc: Global,
+    names: &Names,
+    forest: &mut Forest,
+    act: &Act,
+    steps: &mut Steps<L>,
+) -> Result<bool, Fail> {
+    Ok(match act {
+        Act::Begin(deadline, text, life) => {
+            let answer = begin(alloc, names, forest, *deadline, text)?;
+            lives(forest, answer, *life)
+        }
+        Act::NoBegin(refusal) => begin(alloc, names, forest, 1, "{ }")? == Err(*refusal),
+        Act::Seal => {
+            forest.seal();
+            forest.journal().sealed()
+        }
+        Act::Step(txn, role, position) => { stands(forest.step(*txn, *role, steps), *position) }
+        Act::NoStep(txn, role, refusal) => forest.step(*txn, *role, steps) == *refusal,
+        Act::Commit(txn, reply, resumed, starts) => {
+            forest.commit(*txn).is_ok()
+                && says(alloc, forest, *txn, reply)?
+                && tells(forest, resumed, *starts)
+        }
+        Act::NoCommit(txn, refusal) => forest.commit(*txn) == Err(*refusal),
+        Act::Withdraw(txn, starts) => {
+            forest.withdraw(*txn).is_ok()
+                && forest.journal().withdrawn(*txn)
+                && tells(forest, &[], *starts)
+        }
+        Act::NoWithdraw(txn, refusal) => forest.withdraw(*txn) == Err(*refusal),
+        Act::Run(made) => forest.run_idle(steps) == *made,
+        Act::DrainStep(did, starts) => {
+            forest.drain_step(steps) == *did && forest.started() == *starts
+        }
+        Act::Drain => {
+            forest.drain(steps);
+            forest.started_at(0).is_none()
+        }
+        Act::Show(txn, looks) => shows(forest, *txn, looks),
+        Act::Lives(txn, life) => forest.life(*txn) == *life,
+    })
+}
+
+// Whether a transaction began, and stands so.
+fn lives(forest: &Forest, answer: Result<u32, BeginRefusal>, life: Life) -> bool {
+    match answer {
+        Ok(txn) => forest.life(txn) == life,
+        Err(_) => false,
+    }
+}
+
+// Whether a step was made, to this position.
+fn stands(answer: Stepped, at: u32) -> bool {
+    matches!(answer, Stepped::Stepped { position } if position == at)
+}
+
+// Whether these were taken back, and this one was started.
+fn tells(forest: &Forest, resumed: &[Resumed], starts: Option<u32>) -> bool {
+    forest.resumed() == resumed && forest.started() == starts
+}
+
+// Whether this is the line of a transaction's commit.
+fn says(alloc: Global, forest: &Forest, txn: u32, reply: &str) -> Result<bool, AllocError> {
+    let Some(outcome) = forest.journal().outcome_of(txn) else {
+        return Ok(false);
+    };
+    let mut line = Vec::new(alloc);
+    put_reply(txn, outcome, &mut line)?;
+    Ok(line.as_slice() == reply.as_bytes())
+}
+
+// Whether these are the shadows of a transaction, none of which is out.
+fn shows(forest: &Forest, txn: u32, looks: &[Look]) -> bool {
+    if forest.shadows(txn) as usize != looks.len() {
+        return false;
+    }
+    for place in 0..looks.len() {
+        match forest.shadow(txn, place as u32) {
+            Some(view) => {
+                if view.out
+                    || (view.role, view.position, view.point, view.standing) != looks[place]
+                {
+                    return false;
+                }
+            }
+            None => return false,
+        }
+    }
+    true
+}

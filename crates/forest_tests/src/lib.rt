@@ -1,0 +1,19 @@
+//! Tests of the forest of shadows from outside: worked histories, and shadows set beside plain walks.
+#![tactic(auto)]
+
+#[cfg(test)]
+mod conflicts;
+#[cfg(test)]
+mod events;
+#[cfg(test)]
+mod histories;
+#[cfg(test)]
+mod history;
+#[cfg(test)]
+mod opening;
+#[cfg(test)]
+mod serial;
+#[cfg(test)]
+mod tests;
+#[cfg(test)]
+mod watch;
