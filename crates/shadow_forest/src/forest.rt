@@ -42,9 +42,9 @@ use txn_runs::{Outcome, Program};
 /// How many transactions may begin.
 const MOST_TRANSACTIONS: u32 = 20_000;
 
-/// Transactions that run as shadows. Contracts see it in numbers: the journal, the present tables, and where the shadows of the
-/// started transactions stand. Always: the forest is sound, and each shadow's state is its program's run from the start over the
-/// present tables, stopped at its position.
+/// Transactions under way, as shadows. Contracts see it in numbers: the journal, the present tables, and how far each shadow
+/// has come. The type keeps it sound, and keeps each state equal to what its program, run anew over the present tables, has
+/// reached after as many steps.
 #[derive(Drop)]
 pub struct Forest {
     alloc: Global,
@@ -245,8 +245,8 @@ impl Forest {
         }
     }
 
-    /// A shadow makes a step over the present tables, and is not out; after a step of the optimistic one the forest is settled. It
-    /// ticks once; a refused one changes nothing and ticks nothing.
+    /// One step of a shadow over the present tables, which takes its mark away. After one of an optimistic shadow each transaction
+    /// has the shadows that it wants then. It ticks once; a refused call changes nothing and does not tick.
     pub fn step<L: Ledger>(&mut self, txn: u32, role: Role, steps: &mut Steps<L>) -> Stepped
         ensures answer { result ≡ step_answer (step_of self.old.numbers txn role) }
         ensures next { self.new ≡ with_numbers (after_step self.old.numbers (step_of self.old.numbers txn role)) self.old }
@@ -329,8 +329,8 @@ impl Forest {
         }
     }
 
-    /// Commits the first transaction by priority whose optimistic shadow has ended; where there is none, makes a step of the pick;
-    /// where there is none either, does nothing.
+    /// One step of a drain: the commit of the first by deadline and number that has run to its end, else a step of the pick, else
+    /// nothing.
     pub fn drain_step<L: Ledger>(&mut self, steps: &mut Steps<L>) -> Did
         ensures did { result ≡ (drain_step_of self.old.numbers).0 }
         ensures next { self.new ≡ drain_step_view self.old }

@@ -11,8 +11,8 @@ use step_count::Steps;
 use txn_code::Code;
 use txn_interp::State;
 
-/// Two sides of slots for each lane, each slot with a state and a mark that says whether it is out. An event that settles a
-/// lane exchanges its sides, and then fills the present side from the other one, which still holds the states before it.
+/// States in lanes. A lane has two sides of slots: the present one, and the one from before its sides were last exchanged,
+/// out of which the present one is filled. A mark tells of each slot whether it is out.
 #[derive(Drop)]
 pub struct Bank {
     items: u32,
