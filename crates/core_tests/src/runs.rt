@@ -6,7 +6,8 @@ ghost use Rattle.txn_interp.specs.State.{Runs};
 
 use item_table::Table;
 use journal_core::put_reply;
-use plain_walk::{is_same, walk_program};
+use plain_runs::{PlainRun, plain_run};
+use plain_walk::{Walk, is_same, walk_program};
 use std::alloc::{AllocError, Global};
 use std::sync::ledger::{Blank, Ledger};
 use std::test::Fail;
@@ -52,6 +53,43 @@ pub fn begin(alloc: Global, program: &Program, code: &Code, items: u32) -> Resul
     Ok(state)
 }
 
+// Whether the plain run is where the walk is.
+fn same_run(walk: &Walk, run: &PlainRun) -> bool {
+    run.ended() != walk.cut
+        && run.end() == walk.end
+        && run.registers() == &walk.registers
+        && run.emits() == walk.emits.as_slice()
+        && run.writes() == walk.writes.as_slice()
+        && same_run_reads(walk, run)
+}
+
+fn same_run_reads(walk: &Walk, run: &PlainRun) -> bool {
+    let reads = run.reads();
+    if reads.len() != walk.reads.len() {
+        return false;
+    }
+    for i in 0..reads.len() {
+        let (n, item, value) = walk.reads[i];
+        if reads[i] != (n, u64::from(item), value) {
+            return false;
+        }
+    }
+    true
+}
+
+// Whether the state, a walk and the plain run are all where so many steps lead.
+fn stands(
+    alloc: Global,
+    program: &Program,
+    state: &State,
+    tables: &Table,
+    made: u32,
+) -> Result<bool, AllocError> {
+    let walk = walk_program(alloc, program, tables, made)?;
+    let run = plain_run(alloc, program, tables, made)?;
+    Ok(is_same(state, &walk) && same_run(&walk, &run))
+}
+
 /// How a run has ended: the reads in its log, and its commit line. What it has written is laid over the tables,
 /// where it is done.
 pub fn settle(
@@ -70,7 +108,7 @@ pub fn settle(
     Ok((state.reads().len(), line))
 }
 
-/// Goes on until so many steps are made. Whether each of the first states, and the last, is where a walk is.
+/// Goes on until so many steps are made. Whether each of the first states, and the last, is where a walk and the plain run are.
 fn goes_on<L: Ledger>(
     alloc: Global,
     program: &Program,
@@ -86,15 +124,14 @@ fn goes_on<L: Ledger>(
     ensures room { state.new.log.room ≡ length tables.now }
 {
     for n in state.position()..until {
-        if n <= 300 && !is_same(state, &walk_program(alloc, program, tables, n)?) {
+        if n <= 300 && !stands(alloc, program, state, tables, n)? {
             return Ok(false);
         }
         if !step_once(state, code, tables, steps) {
             return Ok(false);
         }
     }
-    let last = walk_program(alloc, program, tables, until)?;
-    Ok(is_same(state, &last))
+    stands(alloc, program, state, tables, until)
 }
 
 /// Runs a program, which ends after so many steps: the reads in its log, and its commit line. None where it doesn't end there,
