@@ -1,7 +1,7 @@
 //! The plain slow run of a program: it does what the definition says, statement by statement, from the start.
 #![tactic(auto)]
 
-mod arith;
+mod items;
 mod left;
 mod run;
 

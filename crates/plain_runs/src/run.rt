@@ -6,7 +6,7 @@ ghost use Rattle.txn_runs.specs.Run.{start, register, value_of, item_at, own, lo
 ghost use Rattle.txn_runs.specs.Serial.{has_ended};
 ghost use Rattle.plain_runs.specs.Left.{as_stmt};
 
-use crate::arith;
+use crate::items::item_at;
 use crate::left::{Left, Rest};
 use item_table::Table;
 use std::alloc::{AllocError, Global};
@@ -148,7 +148,7 @@ impl<'a> PlainRun<'a> {
     fn calculate(&mut self, to: u8, left: Operand, op: Op, right: Operand)
         ensures { self.new ≡ or_fault (calc op (value_of self.old left) (value_of self.old right)) self.old (λ v. put to v self.old) }
     {
-        match arith::calc(op, self.value(left), self.value(right)) {
+        match txn_runs::calc(op, self.value(left), self.value(right)) {
             Ok(value) => self.put(to, value),
             Err(kind) => self.fault(kind),
         }
@@ -170,7 +170,7 @@ impl<'a> PlainRun<'a> {
     ) -> Result<(), AllocError>
         ensures { OnOk result (self.new ≡ or_fault (item_at from (value_of self.old at)) self.old (read table.now n to self.old)) }
     {
-        match arith::item_at(from, self.value(at)) {
+        match item_at(from, self.value(at)) {
             Ok(item) => self.fetch(table, n, to, item),
             Err(kind) => {
                 self.fault(kind);
@@ -200,7 +200,7 @@ impl<'a> PlainRun<'a> {
         ensures { self.new ≡ or_fault (item_at table (value_of self.old at)) self.old (write (value_of self.old from) self.old) }
     {
         let value = self.value(from);
-        match arith::item_at(table, self.value(at)) {
+        match item_at(table, self.value(at)) {
             Ok(item) => self.set(item, value),
             Err(kind) => self.fault(kind),
         }
@@ -270,7 +270,7 @@ impl<'a> PlainRun<'a> {
                 yes,
                 no,
             } => {
-                let holds = arith::holds(*cmp, self.value(*left), self.value(*right));
+                let holds = txn_runs::holds(*cmp, self.value(*left), self.value(*right));
                 self.choose(holds, yes, no)?;
             }
             Stmt::Loop { count, body } => self.turn(*count, body)?,

@@ -1,8 +1,8 @@
 //! Copied executions of programs.
 #![tactic(auto)]
 
-mod arith;
 mod counters;
+mod items;
 mod laws;
 mod state;
 

@@ -2,8 +2,8 @@ ghost use Rattle.std.specs.Prelude.{◌≡◌, ◌≢◌, ℕ, ◌+◌, ◌<◌,
 ghost use Rattle.txn_runs.specs.declared.outcome.End.TheVariants.{Going};
 ghost use Rattle.txn_interp.specs.State.{is_finish};
 
-use crate::arith;
 use crate::counters::Counters;
+use crate::items::item_at;
 use access_sets::{ReadLog, WriteSet};
 use std::alloc::{AllocError, Global};
 use std::marker::Model;
@@ -138,7 +138,7 @@ impl State {
         requires right { after_register right ≤ 16 }
         ensures { self.new ≡ settle (calc op (operand self.old left) (operand self.old right)) self.old (λ x. put_in to x self.old) }
     {
-        match arith::calc(op, self.operand(left), self.operand(right)) {
+        match txn_runs::calc(op, self.operand(left), self.operand(right)) {
             Ok(value) => self.put(to, value),
             Err(kind) => self.fail(End::Fault { kind }),
         }
@@ -159,7 +159,7 @@ impl State {
         ensures { self.new ≡ settle (item_at table (operand self.old at)) self.old (λ item. record self.old { writes = slice_set self.old.writes item (Some (operand self.old from)) }) }
     {
         let value = self.operand(from);
-        match arith::item_at(table, self.operand(at)) {
+        match item_at(table, self.operand(at)) {
             Ok(item) => self.writes.set(item, value),
             Err(kind) => self.fail(End::Fault { kind }),
         }
@@ -173,7 +173,7 @@ impl State {
         requires before { AreBefore position self.old.log.reads }
         ensures { self.new ≡ settle (item_at table (operand self.old at)) self.old (λ item. fetch_in (own self.old.writes item) (logged self.old.log.reads item) value position to item self.old) }
     {
-        match arith::item_at(table, self.operand(at)) {
+        match item_at(table, self.operand(at)) {
             Ok(item) => self.fetch(to, item, position, value),
             Err(kind) => self.fail(End::Fault { kind }),
         }
@@ -250,7 +250,7 @@ impl State {
                 self.write(table, at, from)
             }
             Act::Test { left, cmp, right } => {
-                if arith::holds(cmp, self.operand(left), self.operand(right)) {
+                if txn_runs::holds(cmp, self.operand(left), self.operand(right)) {
                     self.move_to(node.next)
                 } else {
                     self.move_to(node.other)
@@ -285,7 +285,7 @@ impl State {
         ensures { result ≡ held_kind self.now act }
     {
         match act {
-            Act::Read { table, at, .. } => match arith::item_at(table, self.operand(at)) {
+            Act::Read { table, at, .. } => match item_at(table, self.operand(at)) {
                 Ok(item) => {
                     if self.writes.get(item).is_some() || self.reads.get(item).is_some() {
                         Kind::Local
@@ -295,7 +295,7 @@ impl State {
                 }
                 Err(_) => Kind::Local,
             },
-            Act::Write { table, at, from } => match arith::item_at(table, self.operand(at)) {
+            Act::Write { table, at, from } => match item_at(table, self.operand(at)) {
                 Ok(item) => Kind::Write {
                     item,
                     value: self.operand(from),

@@ -1,11 +1,11 @@
 ghost use Rattle.std.specs.Prelude.{◌≡◌};
 ghost use Rattle.txn_runs.specs.Value.{calc, holds};
-ghost use Rattle.txn_runs.specs.Run.{item_at};
 
-use txn_runs::{Cmp, FaultKind, Op, TableRef};
+use crate::outcome::FaultKind;
+use crate::program::{Cmp, Op};
 
-/// What an operation gives, or the fault where it has no result of 64 bits.
-pub(crate) fn calc(op: Op, a: i64, b: i64) -> Result<i64, FaultKind>
+/// An exact result, or why there is none.
+pub fn calc(op: Op, a: i64, b: i64) -> Result<i64, FaultKind>
     ensures { result ≡ calc op a b }
 {
     match op {
@@ -32,7 +32,7 @@ pub(crate) fn calc(op: Op, a: i64, b: i64) -> Result<i64, FaultKind>
 }
 
 /// Whether a comparison holds.
-pub(crate) fn holds(cmp: Cmp, a: i64, b: i64) -> bool
+pub fn holds(cmp: Cmp, a: i64, b: i64) -> bool
     ensures { result ≡ holds cmp a b }
 {
     match cmp {
@@ -42,16 +42,5 @@ pub(crate) fn holds(cmp: Cmp, a: i64, b: i64) -> bool
         Cmp::Le => a <= b,
         Cmp::Gt => a > b,
         Cmp::Ge => a >= b,
-    }
-}
-
-/// The item at a place of a table, or the fault where the table has no such place.
-pub(crate) fn item_at(table: TableRef, place: i64) -> Result<u64, FaultKind>
-    ensures { result ≡ item_at table place }
-{
-    if place < 0 || place >= i64::from(table.size) {
-        Err(FaultKind::Range)
-    } else {
-        Ok(u64::from(table.base) + place as u64)
     }
 }
