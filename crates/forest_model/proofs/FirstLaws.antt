@@ -1,10 +1,43 @@
--- The first of a list by a strict order, one element more at its end.
-use Rattle.std.proofs.Common.{◌≡◌, ℕ, ◌+◌, ◌<◌, Bool, true, false, cond, List, [], ◌∷◌, ◌++◌, length, take, filter, get_or, Option, Some, None, refl, ap, sym, ◌∙◌, true≢false, append-nil}
+-- The first of a list: what it has, by another order, of a mapped list; and by a strict order with one element more at its end.
+use Rattle.std.proofs.Common.{◌≡◌, ℕ, ◌+◌, ◌<◌, Bool, true, false, cond, List, [], ◌∷◌, ◌++◌, length, take, map, filter, get_or, Option, Some, None, IfSome, option_map, refl, ap, sym, ◌∙◌, true≢false, append-nil}
 use Rattle.std.specs.Cmp.{IsStrictWeakOrder}
-use Rattle.std.proofs.lemmas.Bool.{cases_Bool}
+use Rattle.std.specs.List.{AllByRecursion}
+use Rattle.std.proofs.lemmas.Bool.{cases_Bool, cond_both}
 use Rattle.std.proofs.lemmas.List.Elements.{filter_more}
 use Rattle.forest_model.specs.Choose.{first_by, earlier_of}
 use Rattle.forest_model.proofs.Lists.{either}
+
+-- the first has what each has
+pub first_by-has : {X : Type 0} (P : X → Type 0) (before : X → X → Bool) (xs : List X) → AllByRecursion P xs → IfSome (first_by before xs) P
+first_by-has P before [] all = tt
+first_by-has {X = X} P before (x ∷ xs) all = among (first_by before xs) (first_by-has P before xs all.1)
+  where
+    among : (o : Option X) → IfSome o P → P (earlier_of before x o)
+    among None has = all.0
+    among (Some y) has = cond_both (before y x) y x P (λ e. has) (λ e. all.0)
+
+-- the first by orders that agree on all elements is the same
+pub first_by-agree : {X : Type 0} (P : X → Type 0) (before other : X → X → Bool) → ((x y : X) → P x → P y → before x y ≡ other x y) → (xs : List X) → AllByRecursion P xs → first_by before xs ≡ first_by other xs
+first_by-agree P before other agree [] all = refl
+first_by-agree {X = X} P before other agree (x ∷ xs) all =
+    ap (λ o. Some (earlier_of before x o)) (first_by-agree P before other agree xs all.1) ∙ ap Some (go (first_by other xs) (first_by-has P other xs all.1))
+  where
+    go : (o : Option X) → IfSome o P → earlier_of before x o ≡ earlier_of other x o
+    go None has = refl
+    go (Some y) has = rw (agree y x has all.0) refl
+
+-- the first of a mapped list
+pub first_by-map : {X Y : Type 0} (f : X → Y) (before : Y → Y → Bool) (xs : List X) → first_by before (map f xs) ≡ option_map f (first_by (λ x y. before (f x) (f y)) xs)
+first_by-map f before [] = refl
+first_by-map {X = X} f before (x ∷ xs) =
+    ap (λ o. Some (earlier_of before (f x) o)) (first_by-map f before xs) ∙ go (first_by (λ y z. before (f y) (f z)) xs)
+  where
+    go : (o : Option X) → Some (earlier_of before (f x) (option_map f o)) ≡ option_map f (Some (earlier_of (λ y z. before (f y) (f z)) x o))
+    go None = refl
+    go (Some y) =
+        either (cases_Bool (before (f y) (f x)))
+        (λ e. rw e refl)
+        (λ e. rw e refl)
 
 -- what comes first of those that o came first of, and x
 abbrev pub first_with : {X : Type 0} → (X → X → Bool) → Option X → X → Option X

@@ -1,5 +1,5 @@
 -- A transaction begins.
-use Rattle.std.proofs.Common.{◌≡◌, ℕ, zero, suc, ◌+◌, ◌-◌, ◌≤◌, ◌<◌, true, false, ltb, List, [], ◌∷◌, ◌++◌, filter, length, Some, Ok, IfOk, refl, ap, sym, subst, ◌∙◌, arith, eqb-true, eq-eqb, length-append}
+use Rattle.std.proofs.Common.{◌≡◌, ℕ, suc, ◌+◌, ◌-◌, ◌≤◌, ◌<◌, true, false, ltb, List, [], ◌∷◌, ◌++◌, filter, length, Ok, IfOk, refl, ap, sym, subst, ◌∙◌, arith, eqb-true, eq-eqb, length-append}
 use Rattle.std.specs.Prelude.{slice_get}
 use Rattle.std.specs.List.{AllByRecursion}
 use Rattle.std.proofs.lemmas.Bool.{cases_Bool, or_cases, or_parts, lt-ltb, ltb-true}
@@ -25,20 +25,10 @@ use Rattle.shadow_lanes.specs.Seats.{Seated, comes_before, fresh_seat, started_o
 use Rattle.shadow_forest.specs.declared.txn.Txn.{Txn}
 use Rattle.shadow_forest.specs.Answers.{IsWithin}
 use Rattle.shadow_forest.specs.Kept.{forest_of, AllStand, IsTxn, HasTxn, AreTxns, owed, IsForest}
+use Rattle.shadow_forest.proofs.Elements.{slice_left, slice_last}
 use Rattle.shadow_forest.proofs.BeginningEntry.{pushed, all_begun, stand_push, noted_over, has_txn_push}
 use Rattle.shadow_forest.proofs.BeginningSeats.{started_with, stand_with, noted_with}
 use Rattle.shadow_forest.proofs.BeginningQueue.{few_wait, waits_last, waits_same}
-
--- Lists.
-
-slice_left : {X : Type 0} (xs ys : List X) (i : ℕ) → i < length xs → slice_get (xs ++ ys) i ≡ slice_get xs i
-slice_left [] ys i h = absurd (omega (arith, h))
-slice_left (x ∷ xs) ys zero h = refl
-slice_left (x ∷ xs) ys (suc i) h = slice_left xs ys i (omega (arith, h))
-
-slice_last : {X : Type 0} (xs : List X) (y : X) → slice_get (xs ++ y ∷ []) (length xs) ≡ Some y
-slice_last [] y = refl
-slice_last (x ∷ xs) y = slice_last xs y
 
 -- What is kept of it.
 

@@ -32,3 +32,14 @@ take-more (y ∷ ys) (suc i) x e = let next : suc i + 1 ≡ suc (i + 1) = omega 
 pub mapped-is : {X Y : Type 0} (g : X → Y) (o : Option X) (x : X) (y : Y) → option_map g o ≡ Some y → o ≡ Some x → y ≡ g x
 mapped-is g None x y h e = cc
 mapped-is g (Some z) x y h e = cc
+
+-- the element at a place of a list stays there where more follows
+pub slice_left : {X : Type 0} (xs ys : List X) (i : ℕ) → i < length xs → slice_get (xs ++ ys) i ≡ slice_get xs i
+slice_left [] ys i h = absurd (omega (arith, h))
+slice_left (x ∷ xs) ys zero h = refl
+slice_left (x ∷ xs) ys (suc i) h = slice_left xs ys i (omega (arith, h))
+
+-- one more element is the last
+pub slice_last : {X : Type 0} (xs : List X) (y : X) → slice_get (xs ++ y ∷ []) (length xs) ≡ Some y
+slice_last [] y = refl
+slice_last (x ∷ xs) y = slice_last xs y

@@ -6,8 +6,8 @@ use Rattle.std.proofs.lemmas.Bool.{cond_both}
 use Rattle.std.proofs.lemmas.Bool.Decides.{nat_tests}
 use Rattle.std.proofs.lemmas.List.{map-append, append-nil}
 use Rattle.std.proofs.lemmas.List.Elements.{filter-append}
-use Rattle.forest_model.specs.Choose.{first_by, earlier_of}
-use Rattle.forest_model.proofs.FirstLaws.{first_with, first_by-push}
+use Rattle.forest_model.specs.Choose.{first_by}
+use Rattle.forest_model.proofs.FirstLaws.{first_with, first_by-push, first_by-has}
 use Rattle.shadow_forest.specs.declared.txn.Txn.{Txn}
 use Rattle.shadow_lanes.specs.Seats.{Seat}
 use Rattle.shadow_forest.specs.Parts.{deadline_at, is_prior_at, later_of}
@@ -15,7 +15,7 @@ use Rattle.shadow_forest.specs.Ready.{IsCarried, IsAmong}
 use Rattle.shadow_forest.proofs.Places.{take_more-at}
 
 -- the best so far, of which the one that was there stays where neither comes first
-first_with-later : {X : Type 0} (before : X → X → Bool) (o : Option X) (x : X) → first_with before o x ≡ Some (later_of before o x)
+pub first_with-later : {X : Type 0} (before : X → X → Bool) (o : Option X) (x : X) → first_with before o x ≡ Some (later_of before o x)
 first_with-later before None x = refl
 first_with-later before (Some y) x = refl
 
@@ -33,13 +33,6 @@ by_deadline d = record { one_way = λ a b h. grind (arith, nat_tests); chain = �
 
 pub prior_order : (txns : List Txn) → IsStrictWeakOrder (is_prior_at txns)
 prior_order txns = by_deadline (deadline_at txns)
-
--- the first of one element more
-pub first_more : (txns : List Txn) (ts : List ℕ) (i t : ℕ) (best : Option ℕ) → slice_get ts i ≡ Some t → best ≡ first_by (is_prior_at txns) (take i ts)
-    → Some (later_of (is_prior_at txns) best t) ≡ first_by (is_prior_at txns) (take (i + 1) ts)
-first_more txns ts i t best is e =
-    ap (λ o. Some (later_of (is_prior_at txns) o t)) e
-    ∙ sym (ap (first_by (is_prior_at txns)) (take_more-at ts i t is) ∙ first_by-later (is_prior_at txns) (prior_order txns) (take i ts) t)
 
 -- the numbers of those whose optimistic shadow has run to its end
 abbrev pub ended_numbers : List Seat → List ℕ
@@ -75,15 +68,6 @@ first_ended_same txns seats i r best is done e =
 -- one that is carried is among those that are kept
 pub among_carried : (items : ℕ) (txns : List Txn) (t : ℕ) → IsCarried items txns t → IsAmong (length txns) t
 among_carried items txns t h = record { least = h.least; most = h.most }
-
--- the first has what each has
-pub first_by-has : {X : Type 0} (P : X → Type 0) (before : X → X → Bool) (xs : List X) → AllByRecursion P xs → IfSome (first_by before xs) P
-first_by-has P before [] all = tt
-first_by-has {X = X} P before (x ∷ xs) all = among (first_by before xs) (first_by-has P before xs all.1)
-  where
-    among : (o : Option X) → IfSome o P → P (earlier_of before x o)
-    among None has = all.0
-    among (Some y) has = cond_both (before y x) y x P (λ e. has) (λ e. all.0)
 
 pub first_found : {X : Type 0} (P : X → Type 0) (before : X → X → Bool) (xs : List X) (x : X) → first_by before xs ≡ Some x → AllByRecursion P xs → P x
 first_found P before xs x is all = rw is at (first_by-has P before xs all)

@@ -15,7 +15,6 @@ pub mod Firsts
 pub mod Idling
 pub mod Keeping
 pub mod Leaving
-pub mod Lexical
 pub mod Looks
 pub mod Marking
 pub mod Moving
@@ -24,6 +23,7 @@ pub mod OptimisticCall
 pub mod Picks
 pub mod Places
 pub mod Placing
+pub mod Queue
 pub mod Refilling
 pub mod RenewedForest
 pub mod Renewing

@@ -1,62 +1,24 @@
--- The pick, one row more at a time, and the rows as the forest in numbers has them.
-use Rattle.std.proofs.Common.{◌≡◌, ℕ, Bool, true, false, List, [], ◌∷◌, ◌++◌, map, filter, Option, Some, None, refl, ap, sym, ◌∙◌, append-nil}
-use Rattle.std.specs.Cmp.{IsStrictWeakOrder}
+-- The pick and who has ended first, as the forest in numbers has them.
+use Rattle.std.proofs.Common.{◌≡◌, ℕ, true, false, List, [], ◌∷◌, map, filter, refl, ap, sym, ◌∙◌}
 use Rattle.std.specs.List.{AllByRecursion}
 use Rattle.std.proofs.lemmas.Bool.{cases_Bool}
-use Rattle.std.proofs.lemmas.List.Elements.{filter-append}
-use Rattle.std.proofs.lemmas.List.MinMax.{IsStrictWeakOrder-by_number}
-use Rattle.block_rule.specs.declared.role.Row.{Row}
-use Rattle.forest_model.specs.Choose.{first_by, earlier_of}
+use Rattle.forest_model.specs.Choose.{first_by}
 use Rattle.forest_model.specs.Forest.{Forest, is_ended}
 use Rattle.forest_model.specs.Start.{is_prior}
-use Rattle.forest_model.specs.Pick.{rank, is_earlier, is_ready, pick_of, pick}
+use Rattle.forest_model.specs.Pick.{pick_of, pick}
 use Rattle.forest_model.specs.Drain.{first_ended}
 use Rattle.forest_model.proofs.Lists.{either, all-weaken, all-map, all-filter}
-use Rattle.forest_model.proofs.StartedLaws.{number, all-first}
-use Rattle.forest_model.proofs.FirstLaws.{first_with, first_by-push}
+use Rattle.forest_model.proofs.StartedLaws.{number}
+use Rattle.forest_model.proofs.FirstLaws.{first_by-agree}
 use Rattle.txn_runs.specs.Run.{Tables}
 use Rattle.journal_core.specs.Recorded.{Recorded}
 use Rattle.journal_core.specs.Journal.{deadline_of}
 use Rattle.shadow_lanes.specs.Seats.{Seat, Seated, started_of}
 use Rattle.shadow_forest.specs.declared.txn.Txn.{Txn}
-use Rattle.shadow_forest.specs.Parts.{deadline_at, is_prior_at, all_rows, later_of, better}
+use Rattle.shadow_forest.specs.Parts.{deadline_at, is_prior_at, all_rows}
 use Rattle.shadow_forest.specs.Kept.{forest_of, IsForest}
 use Rattle.shadow_forest.proofs.Seen.{IsSeen, all-seen}
 use Rattle.shadow_forest.proofs.Rows.{all_rows-seen}
-use Rattle.shadow_forest.proofs.Lexical.{then-order}
-
--- rows are in an order
-pub earlier-order : IsStrictWeakOrder is_earlier
-earlier-order =
-    then-order (λ (x : Row). x.deadline) _
-    (then-order (λ (x : Row). x.txn) _
-    (then-order (λ (x : Row). rank x.role) _
-    (IsStrictWeakOrder-by_number (λ (x : Row). x.place))))
-
-with-later : {X : Type 0} (before : X → X → Bool) (o : Option X) (x : X) → first_with before o x ≡ Some (later_of before o x)
-with-later before None x = refl
-with-later before (Some y) x = refl
-
--- the pick of some rows and one more
-pub pick-push : (rows : List Row) (row : Row) → pick_of (rows ++ row ∷ []) ≡ better (pick_of rows) row
-pick-push rows row =
-    ap (first_by is_earlier) (filter-append is_ready rows (row ∷ []))
-    ∙ either (cases_Bool (is_ready row))
-    (λ e. rw (e) (first_by-push is_earlier earlier-order (filter is_ready rows) row ∙ with-later is_earlier (first_by is_earlier (filter is_ready rows)) row))
-    (λ e. rw (e) (ap (first_by is_earlier) (append-nil (filter is_ready rows))))
-
--- The first by two orders that agree.
-
-earlier-agree : {X : Type 0} (P : X → Type 0) (before other : X → X → Bool) → ((x y : X) → P x → P y → before x y ≡ other x y) → (x : X) (o : Option X) → P x → ((y : X) → o ≡ Some y → P y)
-    → earlier_of before x o ≡ earlier_of other x o
-earlier-agree P before other same x None h rest = refl
-earlier-agree P before other same x (Some y) h rest = rw (same y x (rest y refl) h) refl
-
-first-agree : {X : Type 0} (P : X → Type 0) (before other : X → X → Bool) → ((x y : X) → P x → P y → before x y ≡ other x y) → (xs : List X) → AllByRecursion P xs → first_by before xs ≡ first_by other xs
-first-agree P before other same [] h = refl
-first-agree P before other same (x ∷ xs) h =
-    ap (λ o. Some (earlier_of before x o)) (first-agree P before other same xs h.1)
-    ∙ ap Some (earlier-agree P before other same x (first_by other xs) h.0 (λ y e. all-first P other xs y e h.1))
 
 ended-numbers : (f : Forest) (txns : List Txn) (seats : List Seat) → AllByRecursion (IsSeen f txns) seats
     → map (λ (r : Seat). r.number) (filter (λ (r : Seat). r.optimistic.state.done) seats) ≡ map number (filter (is_ended f) (map started_of seats))
@@ -84,6 +46,6 @@ module _ (journal : Recorded) (tables : Tables) (txns : List Txn) (queue : List 
   pub first_ended_is : first_by (is_prior_at txns) (map (λ (r : Seat). r.number) (filter (λ (r : Seat). r.optimistic.state.done) s.seats)) ≡ first_ended (forest_of journal tables s)
   first_ended_is =
       let f : Forest = forest_of journal tables s in
-      first-agree (λ t. deadline_at txns t ≡ deadline_of journal.entries t) (is_prior_at txns) (is_prior journal.entries) (λ t u a b. rw (a, b) refl)
+      first_by-agree (λ t. deadline_at txns t ≡ deadline_of journal.entries t) (is_prior_at txns) (is_prior journal.entries) (λ t u a b. rw (a, b) refl)
       (map (λ (r : Seat). r.number) (filter (λ (r : Seat). r.optimistic.state.done) s.seats)) (numbers-deadline (forest_of journal tables s) txns s.seats (all-seen journal tables txns queue s h))
       ∙ ap (first_by (is_prior journal.entries)) (ended-numbers (forest_of journal tables s) txns s.seats (all-seen journal tables txns queue s h))

@@ -14,6 +14,7 @@ use Rattle.forest_model.specs.Settle.{settled_shadows, settle}
 use Rattle.forest_model.specs.Start.{fresh, start, waits, numbers, is_prior, first_waiting, next_to_start, start_some, start_waiting}
 use Rattle.forest_model.specs.Sound.{IsSound, StandsFor}
 use Rattle.forest_model.proofs.Lists.{either, all-weaken, filter-passes, length-map'}
+use Rattle.forest_model.proofs.FirstLaws.{first_by-agree}
 use Rattle.forest_model.proofs.RestLaws.{IsApart}
 use Rattle.forest_model.proofs.RunLaws.{reads-zero}
 use Rattle.forest_model.proofs.StartedLaws.{below, all-put, length-put, is_started-put, length-filter-le, all-first}
@@ -28,17 +29,6 @@ use Rattle.shadow_forest.proofs.Seating.{fresh_stands}
 use Rattle.shadow_forest.proofs.RenewedForest.{IsOld, IsUnsettled}
 
 -- Lists.
-
--- the first by orders that agree on all elements is the same
-first_agree : {X : Type 0} (P : X → Type 0) (before before' : X → X → Bool) → ((x y : X) → P x → P y → before x y ≡ before' x y) → (xs : List X) → AllByRecursion P xs → first_by before xs ≡ first_by before' xs
-first_agree P before before' agree [] all = refl
-first_agree {X = X} P before before' agree (x ∷ xs) all =
-    let same : first_by before xs ≡ first_by before' xs = first_agree P before before' agree xs all.1 in
-    ap (λ o. Some (earlier_of before x o)) same ∙ ap Some (go (first_by before' xs) (λ y e. all-first P before' xs y e all.1))
-  where
-    go : (o : Option X) → ((y : X) → o ≡ Some y → P y) → earlier_of before x o ≡ earlier_of before' x o
-    go None h = refl
-    go (Some y) h = rw (agree y x (h y refl) all.0) refl
 
 -- without the first there is at least one less
 first_gone : (before : ℕ → ℕ → Bool) (xs : List ℕ) (t : ℕ) → first_by before xs ≡ Some t → suc (length (filter (λ u. not (u == t)) xs)) ≤ length xs
@@ -166,7 +156,7 @@ module _ (journal : Recorded) (d : Tables) (kept : List Txn) (queue : List ℕ) 
 
   same_first : first_by (is_prior_at kept) queue ≡ first_waiting (forest_of journal d s)
   same_first =
-      first_agree (IsBegun s.items journal.entries kept) (is_prior_at kept) (is_prior journal.entries) (λ x y of_x of_y. rw (of_x.deadline, of_y.deadline) refl) queue begun_all
+      first_by-agree (IsBegun s.items journal.entries kept) (is_prior_at kept) (is_prior journal.entries) (λ x y of_x of_y. rw (of_x.deadline, of_y.deadline) refl) queue begun_all
       ∙ ap (first_by (is_prior journal.entries)) h.waiting
 
   -- the next is the next in numbers

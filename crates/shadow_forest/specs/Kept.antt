@@ -15,7 +15,9 @@ use Rattle.forest_model.specs.Sound.{IsSound}
 use Rattle.shadow_state.specs.Bank.{Slot}
 use Rattle.shadow_lanes.specs.Seats.{Seat, Seated, Waiter, started_of, conflicts_of}
 use Rattle.shadow_forest.specs.declared.txn.Txn.{Txn}
+use Rattle.wait_list.specs.Waiting.{Waiting}
 use Rattle.shadow_forest.specs.Answers.{IsWithin}
+use Rattle.shadow_forest.specs.Parts.{deadline_at}
 
 -- the forest in numbers that the fields stand for
 abbrev pub forest_of : Recorded → Tables → Seated → Forest
@@ -61,6 +63,14 @@ HasTxn items journal t (Some x) = IsTxn items journal t x
 pub record AreTxns (items : ℕ) (journal : List Entry) (txns : List Txn) : Type 0 where
   pub many : length txns ≡ began journal
   pub each : (t : ℕ) → has_begun journal t ≡ true → HasTxn items journal t (slice_get txns (t - 1))
+
+-- the numbers of those that wait
+abbrev pub numbers_waiting : List Waiting → List ℕ
+numbers_waiting ws = map (λ (w : Waiting). w.1) ws
+
+-- each waits with the deadline that is kept of it
+abbrev pub AreQueued : List Txn → List Waiting → Type 0
+AreQueued kept ws = AllByRecursion (λ (w : Waiting). deadline_at kept w.1 ≡ w.0) ws
 
 -- the entries that are still to come without another begin: an end for each that is live, and the seal
 abbrev pub owed : ℕ → ℕ → Bool → ℕ

@@ -9,7 +9,6 @@ use Rattle.block_rule.specs.Standing.{standing}
 use Rattle.forest_model.specs.Choose.{first_by}
 use Rattle.forest_model.specs.Point.{Conflict, point, wanted_of}
 use Rattle.forest_model.specs.Forest.{conflict_at}
-use Rattle.forest_model.specs.Pick.{is_earlier, is_ready}
 use Rattle.shadow_lanes.specs.Seats.{Seat, Waiter, conflicts_of, settled_seat, promoted_seat, seats_with}
 use Rattle.shadow_forest.specs.declared.txn.Txn.{Txn}
 
@@ -150,10 +149,6 @@ all_rows txns seats = flat_map (seat_rows txns) seats
 abbrev pub later_of : {X : Type 0} → (X → X → Bool) → Option X → X → X
 later_of before None x = x
 later_of before (Some old) x = if before x old then x else old
-
--- the better of the best row so far and another
-abbrev pub better : Option Row → Row → Option Row
-better best row = if is_ready row then Some (later_of is_earlier best row) else best
 
 -- the role of the shadow that waits at this place
 abbrev pub waiter_role : Option Waiter → Role × Option ℕ

@@ -6,12 +6,13 @@ ghost use Rattle.shadow_lanes.specs.Seats.{Seat, find_seat};
 ghost use Rattle.shadow_forest.specs.Parts.{seat_after, taken_back, next_of, seats_with_some, still_waiting};
 ghost use Rattle.shadow_forest.specs.Answers.{resumed_pair};
 ghost use Rattle.shadow_forest.specs.Ready.{AreCarried, IsCarried};
+ghost use Rattle.shadow_forest.specs.Kept.{numbers_waiting, AreQueued};
 
 use crate::answers::Resumed;
-use crate::priority::first_waiting;
-use crate::txn::{Txn, code_of};
+use crate::txn::{Txn, code_of, deadline_of};
 use commit_rule::cut;
 use shadow_lanes::Lanes;
+use wait_list::WaitList;
 
 /// Cuts the others by the writes of the transaction at a place, and tells whom that takes back.
 pub(crate) fn cut_others(lanes: &mut Lanes, of: u32, txns: &[Txn], resumed: &mut Vec<Resumed>)
@@ -42,22 +43,23 @@ pub(crate) fn cut_others(lanes: &mut Lanes, of: u32, txns: &[Txn], resumed: &mut
 }
 
 /// Starts the first that waits, where a lane is free, and answers who it is.
-pub(crate) fn start_waiting(lanes: &mut Lanes, waiting: &mut Vec<u32>, txns: &[Txn]) -> Option<u32>
-    requires carried { AllByRecursion (IsCarried lanes.old.items txns.now) waiting.old.items }
-    requires apart { AllByRecursion (λ t. find_seat lanes.old.seats t ≡ None) waiting.old.items }
-    ensures next { result ≡ next_of txns.now (length lanes.old.seats) lanes.old.lanes waiting.old.items }
+pub(crate) fn start_waiting(lanes: &mut Lanes, waiting: &mut WaitList, txns: &[Txn]) -> Option<u32>
+    requires carried { AllByRecursion (IsCarried lanes.old.items txns.now) (numbers_waiting waiting.old) }
+    requires apart { AllByRecursion (λ t. find_seat lanes.old.seats t ≡ None) (numbers_waiting waiting.old) }
+    requires queued { AreQueued txns.now waiting.old }
+    ensures next { result ≡ next_of txns.now (length lanes.old.seats) lanes.old.lanes (numbers_waiting waiting.old) }
     ensures lanes { lanes.new ≡ record lanes.old { seats = seats_with_some txns.now lanes.old.items result lanes.old.seats } }
-    ensures waiting { waiting.new.items ≡ still_waiting result waiting.old.items }
-    ensures capacity { vec_capacity waiting.new ≡ vec_capacity waiting.old }
+    ensures waiting { numbers_waiting waiting.new ≡ still_waiting result (numbers_waiting waiting.old) }
+    ensures queued { AreQueued txns.now waiting.new }
 {
     if lanes.len() == lanes.lanes() {
         return None;
     }
-    let next = first_waiting(waiting, txns);
+    let next = waiting.first();
     match next {
         None => {}
         Some(txn) => {
-            waiting.retain(|other| *other != txn);
+            waiting.remove(txn, deadline_of(txns, txn));
             lanes.start(txn, code_of(txns, txn));
         }
     }

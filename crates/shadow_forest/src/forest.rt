@@ -25,7 +25,7 @@ use crate::committing::{cut_others, start_waiting};
 use crate::picking::{pick, role_at};
 use crate::priority::first_ended;
 use crate::settling::{renew, renew_all, wanted_at};
-use crate::txn::{Txn, code_of};
+use crate::txn::{Txn, code_of, deadline_of};
 use block_rule::{Role, Standing, status};
 use forest_model::Did;
 use item_table::Table;
@@ -38,6 +38,7 @@ use step_count::Steps;
 use txn_code::link;
 use txn_interp::Kind;
 use txn_runs::{Outcome, Program};
+use wait_list::WaitList;
 
 /// How many transactions may begin.
 const MOST_TRANSACTIONS: u32 = 20_000;
@@ -51,7 +52,7 @@ pub struct Forest {
     journal: Journal,
     tables: Table,
     txns: Vec<Txn>,
-    waiting: Vec<u32>,
+    waiting: WaitList,
     lanes: Lanes,
     resumed: Vec<Resumed>,
     starts: Option<u32>,
@@ -64,7 +65,7 @@ impl Model for Forest {
     ghost use Rattle.journal_core.specs.contracts.entry.Entry as entry;
     ghost use Rattle.shadow_forest.specs.View.{View};
     ghost use Rattle.shadow_forest.specs.Answers.{resumed_pair};
-    ghost use Rattle.shadow_forest.specs.Kept.{forest_of, IsForest};
+    ghost use Rattle.shadow_forest.specs.Kept.{forest_of, numbers_waiting, IsForest, AreQueued};
 
     ghost Value = { View };
 
@@ -76,7 +77,7 @@ impl Model for Forest {
       starts = f.starts;
     } };
 
-    ghost invariant = { λ f. IsForest f.journal f.tables f.txns.items f.waiting.items f.lanes × (f.lanes.lanes ≤ vec_capacity f.resumed) };
+    ghost invariant = { λ f. IsForest f.journal f.tables f.txns.items (numbers_waiting f.waiting) f.lanes × (f.lanes.lanes ≤ vec_capacity f.resumed) × AreQueued f.txns.items f.waiting };
 }
 
 impl Forest {
@@ -100,7 +101,7 @@ impl Forest {
             journal,
             tables: table,
             txns: Vec::new(alloc),
-            waiting: Vec::new(alloc),
+            waiting: WaitList::new(alloc),
             lanes: lines,
             resumed,
             starts: None,
@@ -407,12 +408,11 @@ impl Forest {
         let live = self.lanes.len() + self.waiting.len() as u32;
         self.journal.reserve(live + 3)?;
         self.txns.reserve(1)?;
-        self.waiting.reserve(1)?;
         let txn = self.journal.began() + 1;
         if self.lanes.len() < self.lanes.lanes() {
             self.lanes.start(txn, &code);
         } else {
-            self.waiting.push_reserved(txn);
+            self.waiting.add(txn, deadline)?;
         }
         self.txns.push_reserved(Txn { deadline, code });
         self.journal.push_reserved(Entry::Began {
@@ -507,7 +507,7 @@ impl Forest {
         self.resumed.clear();
         self.journal.push_reserved(Entry::Withdrawn { txn });
         self.lanes.remove(txn);
-        self.waiting.retain(|other| *other != txn);
+        self.waiting.remove(txn, deadline_of(&self.txns, txn));
         self.starts = start_waiting(&mut self.lanes, &mut self.waiting, &self.txns);
         renew_all(&mut self.lanes, &self.txns);
     }

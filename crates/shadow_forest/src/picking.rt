@@ -1,14 +1,14 @@
 // Which shadow makes the next step, and who is committed next.
-ghost use Rattle.std.specs.Prelude.{◌≡◌, ◌<◌, ◌++◌, true, List, Some, length, slice_get};
+ghost use Rattle.std.specs.Prelude.{◌≡◌, ◌<◌, [], ◌∷◌, ◌++◌, true, List, Some, length, slice_get};
 ghost use Rattle.forest_model.specs.Pick.{pick_of};
 ghost use Rattle.block_rule.specs.declared.role.Row.{Row as RowOf};
 ghost use Rattle.shadow_lanes.specs.Seats.{Seat, slots_of};
-ghost use Rattle.shadow_forest.specs.Parts.{seat_rows, all_rows, better as better_of, role_in};
+ghost use Rattle.shadow_forest.specs.Parts.{seat_rows, all_rows, role_in};
 ghost use Rattle.shadow_forest.specs.Ready.{AreCarried};
 
 use crate::txn::{Txn, deadline_of};
 use block_rule::{Role, Row, status};
-use ready_order::{is_earlier, is_ready};
+use ready_order::{earlier, is_ready};
 use shadow_lanes::Lanes;
 
 /// The first of all shadows that may make a step and are not out.
@@ -75,15 +75,13 @@ pub(crate) fn role_at(lanes: &Lanes, place: u32, slot: u32) -> (Role, Option<u32
     (Role::Guard(guard), Some(point))
 }
 
-// The row, where it is ready and comes before the best so far.
+// The pick of some rows and one more, by the pick of those rows.
 fn better(best: Option<Row>, row: Row) -> Option<Row>
-    ensures { result ≡ better_of best row }
+    ensures { (before : List RowOf) → best ≡ pick_of before → result ≡ pick_of (before ++ row ∷ []) }
 {
-    if !is_ready(&row) {
-        return best;
-    }
-    match best {
-        Some(old) if !is_earlier(&row, &old) => Some(old),
-        _ => Some(row),
+    if is_ready(&row) {
+        earlier(best, row)
+    } else {
+        best
     }
 }

@@ -9,18 +9,6 @@ ghost use Rattle.shadow_forest.specs.Ready.{AreCarried, IsAmong};
 use crate::txn::{Txn, deadline_of};
 use shadow_lanes::Lanes;
 
-/// The first by priority of those that wait.
-pub(crate) fn first_waiting(waiting: &[u32], txns: &[Txn]) -> Option<u32>
-    requires { AllByRecursion (IsAmong (length txns.now)) waiting.now }
-    ensures { result ≡ first_by (is_prior_at txns.now) waiting.now }
-{
-    let mut best = None;
-    for txn in waiting {
-        best = prior(best, *txn, txns);
-    }
-    best
-}
-
 // The one that comes first; of two with one priority the one that was there.
 fn prior(best: Option<u32>, txn: u32, txns: &[Txn]) -> Option<u32>
     requires best { IfSome best (IsAmong (length txns.now)) }

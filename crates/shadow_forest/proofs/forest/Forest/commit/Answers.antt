@@ -7,7 +7,7 @@ use Rattle.shadow_lanes.specs.Seats.{started_of}
 use Rattle.txn_interp.specs.State.{Held}
 use Rattle.shadow_forest.specs.View.{View, commit_told}
 use Rattle.shadow_forest.specs.Answers.{commit_refusal}
-use Rattle.shadow_forest.specs.Kept.{forest_of}
+use Rattle.shadow_forest.specs.Kept.{numbers_waiting, forest_of}
 use Rattle.shadow_forest.proofs.SeatPlaces.{state-at}
 use Rattle.shadow_forest.proofs.Accepting.{IsFoundAt, found_at, find_numbers, commit_unstarted, commit_unended, commit_accepted, at_end, commit_replies}
 use Rattle.shadow_forest.proofs.forest.Forest.commit.Goals as goal
@@ -49,7 +49,7 @@ returns-in-None-clause-never_refused c = λ u live found ended.
 seen : (c : After-ended) → IsFoundAt c.self.inside.journal c.self.inside.tables c.self.inside.lanes c.in-Some.place c.args.txn
 seen c =
     let i = c.self.inside in
-    found_at i.journal i.tables i.txns.items i.waiting.items i.lanes c.in-Some.place c.args.txn c.self.invariant.0 c.in-Some.ensures.0 c.in-Some.ensures.1
+    found_at i.journal i.tables i.txns.items (numbers_waiting i.waiting) i.lanes c.in-Some.place c.args.txn c.self.invariant.0 c.in-Some.ensures.0 c.in-Some.ensures.1
 
 found_now : (c : After-ended) → find_started c.args.self.now.numbers.started c.args.txn ≡ Some (started_of (seen c).seat)
 found_now c = ap (λ (v : View). find_started v.numbers.started c.args.txn) (sym c.self.view_is) ∙ (seen c).found

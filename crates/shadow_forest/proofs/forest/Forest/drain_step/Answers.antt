@@ -11,25 +11,26 @@ use Rattle.shadow_forest.specs.View.{View}
 use Rattle.shadow_forest.proofs.Carrying.{carried}
 use Rattle.shadow_forest.proofs.Idling.{picked, ended-first, pick-ticks}
 use Rattle.shadow_forest.proofs.Drains.{drain-commits, commits-view, drain-steps, steps-view, nothing-done, view-nothing}
+use Rattle.shadow_forest.specs.Kept.{numbers_waiting}
 use Rattle.shadow_forest.proofs.forest.Forest.drain_step.Given.{Over}
 use Rattle.shadow_forest.proofs.forest.Forest.drain_step.Goals as goal
 
 pub first_ended-requires : goal.first_ended-requires
 first_ended-requires g c =
     let i = c.self.inside in
-    subst (λ ts. AreCarried i.lanes.items ts i.lanes.seats) (sym c.deref.ensures.value) (carried i.journal i.tables i.txns.items i.waiting.items i.lanes c.self.invariant.0)
+    subst (λ ts. AreCarried i.lanes.items ts i.lanes.seats) (sym c.deref.ensures.value) (carried i.journal i.tables i.txns.items (numbers_waiting i.waiting) i.lanes c.self.invariant.0)
 
 pub pick-requires : goal.pick-requires
 pick-requires g c =
     let i = c.self.inside in
-    subst (λ ts. AreCarried i.lanes.items ts i.lanes.seats) (sym c.deref-in-None.ensures.value) (carried i.journal i.tables i.txns.items i.waiting.items i.lanes c.self.invariant.0)
+    subst (λ ts. AreCarried i.lanes.items ts i.lanes.seats) (sym c.deref-in-None.ensures.value) (carried i.journal i.tables i.txns.items (numbers_waiting i.waiting) i.lanes c.self.invariant.0)
 
 -- A commit.
 
 ended : (g : Over) (c : goal.After-commit-accepted g) → first_ended c.args.self.now.numbers ≡ Some c.in-Some.txn
 ended g c =
     let i = c.self.inside in
-    ended-first i.journal i.tables i.txns.items i.waiting.items i.lanes c.self.invariant.0 c.args.self.now c.deref.result.now c.first_ended.result (ap (λ (v : View). v.numbers) c.self.view_is) c.deref.ensures.value c.first_ended.ensures
+    ended-first i.journal i.tables i.txns.items (numbers_waiting i.waiting) i.lanes c.self.invariant.0 c.args.self.now c.deref.result.now c.first_ended.result (ap (λ (v : View). v.numbers) c.self.view_is) c.deref.ensures.value c.first_ended.ensures
     ∙ c.in-Some.is
 
 pub returns-in-Some-clause-did : goal.returns-in-Some-clause-did
@@ -45,13 +46,13 @@ returns-in-Some-clause-next g c =
 none : (g : Over) (c : goal.After-step g) → first_ended c.args.self.now.numbers ≡ None
 none g c =
     let i = c.self.inside in
-    ended-first i.journal i.tables i.txns.items i.waiting.items i.lanes c.self.invariant.0 c.args.self.now c.deref.result.now c.first_ended.result (ap (λ (v : View). v.numbers) c.self.view_is) c.deref.ensures.value c.first_ended.ensures
+    ended-first i.journal i.tables i.txns.items (numbers_waiting i.waiting) i.lanes c.self.invariant.0 c.args.self.now c.deref.result.now c.first_ended.result (ap (λ (v : View). v.numbers) c.self.view_is) c.deref.ensures.value c.first_ended.ensures
     ∙ c.in-None.is
 
 row : (g : Over) (c : goal.After-step g) → pick c.args.self.now.numbers ≡ Some c.in-Some-pick.row
 row g c =
     let i = c.self.inside in
-    picked i.journal i.tables i.txns.items i.waiting.items i.lanes c.self.invariant.0 c.args.self.now c.deref-in-None.result.now c.pick.result (ap (λ (v : View). v.numbers) c.self.view_is) c.deref-in-None.ensures.value c.pick.ensures
+    picked i.journal i.tables i.txns.items (numbers_waiting i.waiting) i.lanes c.self.invariant.0 c.args.self.now c.deref-in-None.result.now c.pick.result (ap (λ (v : View). v.numbers) c.self.view_is) c.deref-in-None.ensures.value c.pick.ensures
     ∙ c.in-Some-pick.is
 
 pub returns-in-Some-pick-clause-did : goal.returns-in-Some-pick-clause-did
@@ -72,13 +73,13 @@ returns-in-Some-pick-clause-ticks g c =
 no-ended : (g : Over) (c : goal.In-None-pick g) → first_ended c.args.self.now.numbers ≡ None
 no-ended g c =
     let i = c.self.inside in
-    ended-first i.journal i.tables i.txns.items i.waiting.items i.lanes c.self.invariant.0 c.args.self.now c.deref.result.now c.first_ended.result (ap (λ (v : View). v.numbers) c.self.view_is) c.deref.ensures.value c.first_ended.ensures
+    ended-first i.journal i.tables i.txns.items (numbers_waiting i.waiting) i.lanes c.self.invariant.0 c.args.self.now c.deref.result.now c.first_ended.result (ap (λ (v : View). v.numbers) c.self.view_is) c.deref.ensures.value c.first_ended.ensures
     ∙ c.in-None.is
 
 no-row : (g : Over) (c : goal.In-None-pick g) → pick c.args.self.now.numbers ≡ None
 no-row g c =
     let i = c.self.inside in
-    picked i.journal i.tables i.txns.items i.waiting.items i.lanes c.self.invariant.0 c.args.self.now c.deref-in-None.result.now c.pick.result (ap (λ (v : View). v.numbers) c.self.view_is) c.deref-in-None.ensures.value c.pick.ensures
+    picked i.journal i.tables i.txns.items (numbers_waiting i.waiting) i.lanes c.self.invariant.0 c.args.self.now c.deref-in-None.result.now c.pick.result (ap (λ (v : View). v.numbers) c.self.view_is) c.deref-in-None.ensures.value c.pick.ensures
     ∙ c.in-None-pick.is
 
 pub returns-in-None-pick-clause-did : goal.returns-in-None-pick-clause-did

@@ -1,4 +1,4 @@
-use Rattle.std.proofs.Common.{◌≡◌, [], ◌∷◌, ◌++◌, filter_map, map, length, refl, ap, sym, ◌∙◌}
+use Rattle.std.proofs.Common.{◌≡◌, [], ◌∷◌, ◌++◌, filter_map, map, length, refl, ap, sym, subst, ◌∙◌}
 use Rattle.std.specs.Prelude.{slice_get}
 use Rattle.std.specs.Vec.{vec_capacity}
 use Rattle.txn_runs.specs.Serial.{outcome_of, over}
@@ -13,7 +13,7 @@ use Rattle.shadow_lanes.specs.Seats.{started_of}
 use Rattle.shadow_forest.specs.View.{View, told_commit}
 use Rattle.shadow_forest.specs.Answers.{resumed_pair}
 use Rattle.shadow_forest.specs.Parts.{seat_after, taken_back, next_of, seats_with_some, all_renewed}
-use Rattle.shadow_forest.specs.Kept.{forest_of}
+use Rattle.shadow_forest.specs.Kept.{numbers_waiting, AreQueued, forest_of}
 use Rattle.txn_interp.specs.State.{Held}
 use Rattle.shadow_forest.proofs.CutForest.{whole_done, whole_room}
 use Rattle.shadow_forest.proofs.RenewedForest.{unsettled_carried}
@@ -32,7 +32,7 @@ ending c =
     let i = c.self.inside in
     let v : forest_of i.journal i.tables i.lanes ≡ c.args.self.now.numbers = ap (λ (x : View). x.numbers) c.self.view_is in
     let p = c.requires.place in
-    end_at i.journal i.tables i.txns.items i.waiting.items i.lanes c.args.place c.args.txn p.0 c.self.invariant.0
+    end_at i.journal i.tables i.txns.items (numbers_waiting i.waiting) i.lanes c.args.place c.args.txn p.0 c.self.invariant.0
     (ap (λ (f : Forest). slice_get f.started c.args.place) v ∙ p.1) (ap (λ (f : Forest). find_started f.started c.args.txn) v ∙ p.2) (ap (λ f. is_ended f p.0) v ∙ p.3)
 
 -- its state
@@ -58,7 +58,7 @@ cut_others-requires-clause-of c = (ending (goal.at.cut_others-requires-clause-of
 pub cut_others-requires-clause-carried : goal.cut_others-requires-clause-carried
 cut_others-requires-clause-carried c =
     let i = c.self.inside in
-    rw c.deref.ensures.value (all_carried i.journal i.tables i.txns.items i.waiting.items i.lanes c.self.invariant.0)
+    rw c.deref.ensures.value (all_carried i.journal i.tables i.txns.items (numbers_waiting i.waiting) i.lanes c.self.invariant.0)
 
 pub push_reserved-requires-clause-continues : goal.push_reserved-requires-clause-continues
 push_reserved-requires-clause-continues c =
@@ -87,7 +87,7 @@ cut_step c e st =
     let said : is_done_of (outcome_of (program_of i.journal.entries e.seat.number) i.tables) ≡ c.is_done.result = ap is_done_of (sym outcome) ∙ sym c.is_done.ensures in
     elim c.if-is_done.branch [
       | then-is_done w ↦
-          done_step i.journal i.tables i.txns.items i.waiting.items i.lanes c.args.place c.args.txn c.self.invariant.0 e c.if-is_done.self-inside.tables c.if-is_done.self-inside.lanes (map resumed_pair c.if-is_done.self-inside.resumed.items)
+          done_step i.journal i.tables i.txns.items (numbers_waiting i.waiting) i.lanes c.args.place c.args.txn c.self.invariant.0 e c.if-is_done.self-inside.tables c.if-is_done.self-inside.lanes (map resumed_pair c.if-is_done.self-inside.resumed.items)
           (said ∙ w.if-is_done.true)
           (ap (λ (x : Inside). x.tables) w.self-inside-is ∙ w.lay_over.ensures ∙ ap (λ ws. over ws i.tables) (w.writes.ensures ∙ ap (λ (x : Held). x.writes) st))
           (ap (λ (x : Inside). x.lanes) w.self-inside-is ∙ w.cut_others.ensures.seats e.seat e.there ∙ ap (λ kept. record i.lanes { seats = map (seat_after i.lanes.items kept e.seat) i.lanes.seats }) w.deref.ensures.value)
@@ -95,7 +95,7 @@ cut_step c e st =
           ∙ ap (λ xs. map resumed_pair xs ++ filter_map (taken_back i.lanes.items w.deref.result.now e.seat) i.lanes.seats) c.clear.ensures.items
           ∙ ap (λ kept. filter_map (taken_back i.lanes.items kept e.seat) i.lanes.seats) w.deref.ensures.value)
       | else-is_done w ↦
-          undone_step i.journal i.tables i.txns.items i.waiting.items i.lanes c.args.place c.args.txn c.self.invariant.0 e c.if-is_done.self-inside.tables c.if-is_done.self-inside.lanes (map resumed_pair c.if-is_done.self-inside.resumed.items)
+          undone_step i.journal i.tables i.txns.items (numbers_waiting i.waiting) i.lanes c.args.place c.args.txn c.self.invariant.0 e c.if-is_done.self-inside.tables c.if-is_done.self-inside.lanes (map resumed_pair c.if-is_done.self-inside.resumed.items)
           (said ∙ w.if-is_done.false)
           (ap (λ (x : Inside). x.tables) w.self-inside-is)
           (ap (λ (x : Inside). x.lanes) w.self-inside-is)
@@ -109,8 +109,14 @@ same_journal c = elim c.if-is_done.branch [ then-is_done w ↦ ap (λ (x : Insid
 same_txns : (c : After-deref-2) → c.if-is_done.self-inside.txns.items ≡ c.self.inside.txns.items
 same_txns c = elim c.if-is_done.branch [ then-is_done w ↦ ap (λ (x : Inside). x.txns.items) w.self-inside-is | else-is_done w ↦ ap (λ (x : Inside). x.txns.items) w.self-inside-is ]
 
-same_waiting : (c : After-deref-2) → c.if-is_done.self-inside.waiting.items ≡ c.self.inside.waiting.items
-same_waiting c = elim c.if-is_done.branch [ then-is_done w ↦ ap (λ (x : Inside). x.waiting.items) w.self-inside-is | else-is_done w ↦ ap (λ (x : Inside). x.waiting.items) w.self-inside-is ]
+same_line : (c : After-deref-2) → c.if-is_done.self-inside.waiting ≡ c.self.inside.waiting
+same_line c = elim c.if-is_done.branch [ then-is_done w ↦ ap (λ (x : Inside). x.waiting) w.self-inside-is | else-is_done w ↦ ap (λ (x : Inside). x.waiting) w.self-inside-is ]
+
+same_waiting : (c : After-deref-2) → numbers_waiting c.if-is_done.self-inside.waiting ≡ numbers_waiting c.self.inside.waiting
+same_waiting c = ap numbers_waiting (same_line c)
+
+still_queued : (c : After-deref-2) → AreQueued c.if-is_done.self-inside.txns.items c.if-is_done.self-inside.waiting
+still_queued c = rw (same_txns c, same_line c) c.self.invariant.2
 
 same_room : (c : After-deref-2) → vec_capacity c.if-is_done.self-inside.resumed ≡ vec_capacity c.self.inside.resumed
 same_room c = elim c.if-is_done.branch [
@@ -135,12 +141,12 @@ written c e st =
 
 -- all is kept before one that waits may start
 unstarted : (c : After-deref-2) (e : IsEndAt c.self.inside.journal c.self.inside.tables c.self.inside.lanes c.args.place c.args.txn) → c.state-state.result.now ≡ e.seat.optimistic.state
-    → IsUnstarted c.push_reserved.new.self c.if-is_done.self-inside.tables c.if-is_done.self-inside.txns.items c.if-is_done.self-inside.waiting.items c.remove.new.self (map started_of c.remove.new.self.seats)
+    → IsUnstarted c.push_reserved.new.self c.if-is_done.self-inside.tables c.if-is_done.self-inside.txns.items (numbers_waiting c.if-is_done.self-inside.waiting) c.remove.new.self (map started_of c.remove.new.self.seats)
 unstarted c e st =
     let i = c.self.inside in
     let x = c.if-is_done.self-inside in
     rw (same_txns c, same_waiting c)
-    (written_keeps i.journal i.tables i.txns.items i.waiting.items i.lanes c.args.place c.args.txn c.self.invariant.0 e x.tables x.lanes (map resumed_pair x.resumed.items) (cut_step c e st) c.push_reserved.new.self c.remove.new.self (written c e st))
+    (written_keeps i.journal i.tables i.txns.items (numbers_waiting i.waiting) i.lanes c.args.place c.args.txn c.self.invariant.0 e x.tables x.lanes (map resumed_pair x.resumed.items) (cut_step c e st) c.push_reserved.new.self c.remove.new.self (written c e st))
 
 pub start_waiting-self-inside-requires-clause-carried :
     goal.start_waiting-self-inside-requires-clause-carried
@@ -148,7 +154,7 @@ start_waiting-self-inside-requires-clause-carried c =
     let x = c.if-is_done.self-inside in
     let e = ending (goal.at.start_waiting-self-inside-requires-clause-carried c).After-self in
     let st = state_is (goal.at.start_waiting-self-inside-requires-clause-carried c).After-state-state e in
-    rw c.deref-2.ensures.value (queue_carried c.push_reserved.new.self x.tables x.txns.items x.waiting.items c.remove.new.self (map started_of c.remove.new.self.seats) (unstarted c e st))
+    rw c.deref-2.ensures.value (queue_carried c.push_reserved.new.self x.tables x.txns.items (numbers_waiting x.waiting) c.remove.new.self (map started_of c.remove.new.self.seats) (unstarted c e st))
 
 pub start_waiting-self-inside-requires-clause-apart :
     goal.start_waiting-self-inside-requires-clause-apart
@@ -156,15 +162,19 @@ start_waiting-self-inside-requires-clause-apart c =
     let x = c.if-is_done.self-inside in
     let e = ending (goal.at.start_waiting-self-inside-requires-clause-apart c).After-self in
     let st = state_is (goal.at.start_waiting-self-inside-requires-clause-apart c).After-state-state e in
-    queue_apart c.push_reserved.new.self x.tables x.txns.items x.waiting.items c.remove.new.self (map started_of c.remove.new.self.seats) (unstarted c e st)
+    queue_apart c.push_reserved.new.self x.tables x.txns.items (numbers_waiting x.waiting) c.remove.new.self (map started_of c.remove.new.self.seats) (unstarted c e st)
+
+pub start_waiting-self-inside-requires-clause-queued :
+    goal.start_waiting-self-inside-requires-clause-queued
+start_waiting-self-inside-requires-clause-queued c = rw c.deref-2.ensures.value (still_queued c)
 
 -- one that waits may have started
-filled : (c : After-deref-3) → IsFilled c.if-is_done.self-inside.txns.items c.if-is_done.self-inside.waiting.items c.remove.new.self c.start_waiting-self-inside.result c.start_waiting-self-inside.new.waiting.items c.start_waiting-self-inside.new.lanes
+filled : (c : After-deref-3) → IsFilled c.if-is_done.self-inside.txns.items (numbers_waiting c.if-is_done.self-inside.waiting) c.remove.new.self c.start_waiting-self-inside.result (numbers_waiting c.start_waiting-self-inside.new.waiting) c.start_waiting-self-inside.new.lanes
 filled c =
     let w = c.start_waiting-self-inside in
     let left = c.remove.new.self in
     record {
-      next = w.ensures.next ∙ ap (λ kept. next_of kept (length left.seats) left.lanes c.if-is_done.self-inside.waiting.items) c.deref-2.ensures.value;
+      next = w.ensures.next ∙ ap (λ kept. next_of kept (length left.seats) left.lanes (numbers_waiting c.if-is_done.self-inside.waiting)) c.deref-2.ensures.value;
       seats_are = w.ensures.lanes ∙ ap (λ kept. record left { seats = seats_with_some kept left.items w.result left.seats }) c.deref-2.ensures.value;
       queue_is = w.ensures.waiting;
     }
@@ -179,12 +189,12 @@ renew_all-requires c =
     let e = ending (goal.at.renew_all-requires c).After-self in
     let st = state_is (goal.at.renew_all-requires c).After-state-state e in
     rw c.deref-3.ensures.value
-    (unsettled_carried j x.tables x.txns.items w.new.waiting.items w.new.lanes before
-    (filled_keeps j x.tables x.txns.items x.waiting.items left before w.result w.new.waiting.items w.new.lanes (unstarted (goal.at.renew_all-requires c).After-deref-2 e st) (filled c)))
+    (unsettled_carried j x.tables x.txns.items (numbers_waiting w.new.waiting) w.new.lanes before
+    (filled_keeps j x.tables x.txns.items (numbers_waiting x.waiting) left before w.result (numbers_waiting w.new.waiting) w.new.lanes (unstarted (goal.at.renew_all-requires c).After-deref-2 e st) (filled c)))
 
 -- and all were renewed
-refilled : (c : After-renew_all) → IsFilled c.if-is_done.self-inside.txns.items c.if-is_done.self-inside.waiting.items c.remove.new.self c.start_waiting-self-inside.result c.start_waiting-self-inside.new.waiting.items c.start_waiting-self-inside.new.lanes
-    → IsRefilled c.if-is_done.self-inside.txns.items c.if-is_done.self-inside.waiting.items c.remove.new.self c.start_waiting-self-inside.result c.start_waiting-self-inside.new.waiting.items c.start_waiting-self-inside.new.lanes c.renew_all.new.lanes
+refilled : (c : After-renew_all) → IsFilled c.if-is_done.self-inside.txns.items (numbers_waiting c.if-is_done.self-inside.waiting) c.remove.new.self c.start_waiting-self-inside.result (numbers_waiting c.start_waiting-self-inside.new.waiting) c.start_waiting-self-inside.new.lanes
+    → IsRefilled c.if-is_done.self-inside.txns.items (numbers_waiting c.if-is_done.self-inside.waiting) c.remove.new.self c.start_waiting-self-inside.result (numbers_waiting c.start_waiting-self-inside.new.waiting) c.start_waiting-self-inside.new.lanes c.renew_all.new.lanes
 refilled c fill =
     let lanes = c.start_waiting-self-inside.new.lanes in
     record {
@@ -206,11 +216,12 @@ invariant_of-self c =
     let u = unstarted a e st in
     let re = refilled c (filled (goal.at.invariant_of-self c).After-deref-3) in
     let lanes : c.renew_all.new.lanes.lanes ≡ i.lanes.lanes =
-    refilled_lanes j x.tables x.txns.items x.waiting.items left before w.result w.new.waiting.items w.new.lanes c.renew_all.new.lanes u re
-    ∙ written_lanes i.journal i.tables i.txns.items i.waiting.items i.lanes c.args.place c.args.txn c.self.invariant.0 e x.tables x.lanes (map resumed_pair x.resumed.items) (cut_step a e st) j left (written a e st)
+    refilled_lanes j x.tables x.txns.items (numbers_waiting x.waiting) left before w.result (numbers_waiting w.new.waiting) w.new.lanes c.renew_all.new.lanes u re
+    ∙ written_lanes i.journal i.tables i.txns.items (numbers_waiting i.waiting) i.lanes c.args.place c.args.txn c.self.invariant.0 e x.tables x.lanes (map resumed_pair x.resumed.items) (cut_step a e st) j left (written a e st)
     in (
-      refilled_keeps j x.tables x.txns.items x.waiting.items left before w.result w.new.waiting.items w.new.lanes c.renew_all.new.lanes u re,
+      refilled_keeps j x.tables x.txns.items (numbers_waiting x.waiting) left before w.result (numbers_waiting w.new.waiting) w.new.lanes c.renew_all.new.lanes u re,
       rw (lanes, same_room a) c.self.invariant.1,
+      subst (λ xs. AreQueued xs w.new.waiting) c.deref-2.ensures.value w.ensures.queued,
     )
 
 pub returns : goal.returns
@@ -233,17 +244,17 @@ returns c = λ r found.
     let step = cut_step a e st in
     let is = written a e st in
     let now : forest_of j x.tables c.renew_all.new.lanes ≡ committed f r =
-    refilled_forest j x.tables x.txns.items x.waiting.items left before w.result w.new.waiting.items w.new.lanes c.renew_all.new.lanes u re
-    ∙ written_settles i.journal i.tables i.txns.items i.waiting.items i.lanes c.args.place c.args.txn c.self.invariant.0 e x.tables x.lanes (map resumed_pair x.resumed.items) step j left is
+    refilled_forest j x.tables x.txns.items (numbers_waiting x.waiting) left before w.result (numbers_waiting w.new.waiting) w.new.lanes c.renew_all.new.lanes u re
+    ∙ written_settles i.journal i.tables i.txns.items (numbers_waiting i.waiting) i.lanes c.args.place c.args.txn c.self.invariant.0 e x.tables x.lanes (map resumed_pair x.resumed.items) step j left is
     ∙ ap (committed f) same
     in
     let told : map resumed_pair x.resumed.items ≡ resumed f r =
-    written_back i.journal i.tables i.txns.items i.waiting.items i.lanes c.args.place c.args.txn c.self.invariant.0 e x.tables x.lanes (map resumed_pair x.resumed.items) step j left is
+    written_back i.journal i.tables i.txns.items (numbers_waiting i.waiting) i.lanes c.args.place c.args.txn c.self.invariant.0 e x.tables x.lanes (map resumed_pair x.resumed.items) step j left is
     ∙ ap (resumed f) same
     in
     let who : w.result ≡ next_to_start (laid f r) =
-    fill.next ∙ next_is j x.tables x.txns.items x.waiting.items left before u
-    ∙ ap next_to_start (written_forest i.journal i.tables i.txns.items i.waiting.items i.lanes c.args.place c.args.txn c.self.invariant.0 e x.tables x.lanes (map resumed_pair x.resumed.items) step j left is)
+    fill.next ∙ next_is j x.tables x.txns.items (numbers_waiting x.waiting) left before u
+    ∙ ap next_to_start (written_forest i.journal i.tables i.txns.items (numbers_waiting i.waiting) i.lanes c.args.place c.args.txn c.self.invariant.0 e x.tables x.lanes (map resumed_pair x.resumed.items) step j left is)
     ∙ ap (λ y. next_to_start (laid f y)) same
     in
     let view : told_commit c.args.self.now c.args.txn (committed c.args.self.now.numbers r) ≡ record { numbers = committed f r; resumed = resumed f r; starts = next_to_start (laid f r) } =

@@ -7,7 +7,7 @@ use Rattle.forest_model.specs.Work.{work}
 use Rattle.forest_model.specs.Drain.{step_row, run_idle}
 use Rattle.forest_model.proofs.IdleLaws.{pick-step}
 use Rattle.shadow_forest.specs.Answers.{step_ticks}
-use Rattle.shadow_forest.specs.Kept.{forest_of}
+use Rattle.shadow_forest.specs.Kept.{numbers_waiting, forest_of}
 use Rattle.shadow_forest.specs.Ready.{AreCarried}
 use Rattle.shadow_forest.specs.View.{View}
 use Rattle.shadow_forest.proofs.Carrying.{carried}
@@ -28,14 +28,14 @@ loop-row-init g c =
       ticks = sym (add-zero _);
       fits =
           subst (λ (f : Forest). (run_idle f).0 < 2 ^ 64) numbers
-          (idle-fits c.self.inside.journal c.self.inside.tables c.self.inside.txns.items c.self.inside.waiting.items c.self.inside.lanes c.self.invariant.0 most lanes);
+          (idle-fits c.self.inside.journal c.self.inside.tables c.self.inside.txns.items (numbers_waiting c.self.inside.waiting) c.self.inside.lanes c.self.invariant.0 most lanes);
     }
 
 pub pick-requires : goal.pick-requires
 pick-requires g c =
     let i = c.self-in-loop-row.inside in
     subst (λ ts. AreCarried i.lanes.items ts i.lanes.seats) (sym c.deref.ensures.value)
-    (carried i.journal i.tables i.txns.items i.waiting.items i.lanes c.self-in-loop-row.invariant.0)
+    (carried i.journal i.tables i.txns.items (numbers_waiting i.waiting) i.lanes c.self-in-loop-row.invariant.0)
 
 -- The last time.
 
@@ -46,7 +46,7 @@ still : (g : Over) (c : goal.In-None g) → run_idle c.loop-row.self.numbers ≡
 still g c =
     let i = c.self-in-loop-row.inside in
     idle-none c.loop-row.self.numbers (sound-none g c)
-    (picked i.journal i.tables i.txns.items i.waiting.items i.lanes c.self-in-loop-row.invariant.0 c.loop-row.self c.deref.result.now c.pick.result (ap (λ (v : View). v.numbers) c.self-in-loop-row.view_is) c.deref.ensures.value c.pick.ensures
+    (picked i.journal i.tables i.txns.items (numbers_waiting i.waiting) i.lanes c.self-in-loop-row.invariant.0 c.loop-row.self c.deref.result.now c.pick.result (ap (λ (v : View). v.numbers) c.self-in-loop-row.view_is) c.deref.ensures.value c.pick.ensures
     ∙ c.in-None.is)
 
 pub returns-in-None-clause-made : goal.returns-in-None-clause-made
@@ -71,7 +71,7 @@ sound g c = subst (λ (v : View). IsSound v.numbers) c.self-in-loop-row.view_is 
 pick-row : (g : Over) (c : goal.After-step g) → pick c.loop-row.self.numbers ≡ Some c.in-Some.row
 pick-row g c =
     let i = c.self-in-loop-row.inside in
-    picked i.journal i.tables i.txns.items i.waiting.items i.lanes c.self-in-loop-row.invariant.0 c.loop-row.self c.deref.result.now c.pick.result (ap (λ (v : View). v.numbers) c.self-in-loop-row.view_is) c.deref.ensures.value c.pick.ensures
+    picked i.journal i.tables i.txns.items (numbers_waiting i.waiting) i.lanes c.self-in-loop-row.invariant.0 c.loop-row.self c.deref.result.now c.pick.result (ap (λ (v : View). v.numbers) c.self-in-loop-row.view_is) c.deref.ensures.value c.pick.ensures
     ∙ c.in-Some.is
 
 made-more : (g : Over) (c : goal.After-step g) → (run_idle c.loop-row.self.numbers).0 ≡ suc (run_idle (step_row c.loop-row.self.numbers c.in-Some.row)).0

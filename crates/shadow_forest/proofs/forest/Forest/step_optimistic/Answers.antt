@@ -8,7 +8,7 @@ use Rattle.shadow_lanes.specs.Seats.{Seated}
 use Rattle.shadow_forest.specs.View.{View, with_numbers}
 use Rattle.shadow_forest.specs.Answers.{step_answer, step_ticks}
 use Rattle.shadow_forest.specs.Parts.{nodes_at, all_renewed}
-use Rattle.shadow_forest.specs.Kept.{forest_of}
+use Rattle.shadow_forest.specs.Kept.{numbers_waiting, forest_of}
 use Rattle.shadow_forest.proofs.Placing.{at_view, carries}
 use Rattle.shadow_forest.proofs.OptimisticCall.{IsCall, call_is, first_low, first_runs, has_ended_is, may_go, IsOptimisticStep, local_call, read_call, write_call, renewed_below, renewed_go, write_all_carried}
 use Rattle.shadow_forest.specs.Ready.{AreCarried}
@@ -19,25 +19,25 @@ use Rattle.shadow_forest.proofs.forest.Forest.step_optimistic.Goals as goal
 pub code_of-code-requires-clause-least : goal.code_of-code-requires-clause-least
 code_of-code-requires-clause-least g c =
     let i = c.self.inside in
-    let v = at_view i.journal i.tables i.txns.items i.waiting.items i.lanes _ _ c.args.place c.args.txn c.args.self.now c.self.view_is c.self.invariant.0 c.requires.place in
+    let v = at_view i.journal i.tables i.txns.items (numbers_waiting i.waiting) i.lanes _ _ c.args.place c.args.txn c.args.self.now c.self.view_is c.self.invariant.0 c.requires.place in
     v.a.least
 
 pub code_of-code-requires-clause-most : goal.code_of-code-requires-clause-most
 code_of-code-requires-clause-most g c =
     let i = c.self.inside in
-    let v = at_view i.journal i.tables i.txns.items i.waiting.items i.lanes _ _ c.args.place c.args.txn c.args.self.now c.self.view_is c.self.invariant.0 c.requires.place in
+    let v = at_view i.journal i.tables i.txns.items (numbers_waiting i.waiting) i.lanes _ _ c.args.place c.args.txn c.args.self.now c.self.view_is c.self.invariant.0 c.requires.place in
     subst (λ xs. c.args.txn ≤ length xs) (sym c.deref.ensures.value) v.a.most
 
 pub state-state-requires-clause-place : goal.state-state-requires-clause-place
 state-state-requires-clause-place g c =
     let i = c.self.inside in
-    let v = at_view i.journal i.tables i.txns.items i.waiting.items i.lanes _ _ c.args.place c.args.txn c.args.self.now c.self.view_is c.self.invariant.0 c.requires.place in
+    let v = at_view i.journal i.tables i.txns.items (numbers_waiting i.waiting) i.lanes _ _ c.args.place c.args.txn c.args.self.now c.self.view_is c.self.invariant.0 c.requires.place in
     v.a.below
 
 pub overflow_add-position : goal.overflow_add-position
 overflow_add-position g c =
     let i = c.self.inside in
-    let v = at_view i.journal i.tables i.txns.items i.waiting.items i.lanes _ _ c.args.place c.args.txn c.args.self.now c.self.view_is c.self.invariant.0 c.requires.place in
+    let v = at_view i.journal i.tables i.txns.items (numbers_waiting i.waiting) i.lanes _ _ c.args.place c.args.txn c.args.self.now c.self.view_is c.self.invariant.0 c.requires.place in
     let low = first_low i.journal i.tables i.txns.items i.lanes c.args.place c.args.txn c.args.self.now v c.state-state.result.now c.state-state.ensures.state in
     let is = c.position-position.ensures in
     omega (arith, low, is)
@@ -45,7 +45,7 @@ overflow_add-position g c =
 pub next_kind-requires : goal.next_kind-requires
 next_kind-requires g c =
     let i = c.self.inside in
-    let v = at_view i.journal i.tables i.txns.items i.waiting.items i.lanes _ _ c.args.place c.args.txn c.args.self.now c.self.view_is c.self.invariant.0 c.requires.place in
+    let v = at_view i.journal i.tables i.txns.items (numbers_waiting i.waiting) i.lanes _ _ c.args.place c.args.txn c.args.self.now c.self.view_is c.self.invariant.0 c.requires.place in
     first_runs i.journal i.tables i.txns.items i.lanes c.args.place c.args.txn c.args.self.now v c.state-state.result.now c.code_of-code.result.now.nodes c.self.invariant.0.items (c.code_of-code.ensures ∙ ap (λ xs. nodes_at xs c.args.txn) c.deref.ensures.value) c.state-state.ensures.state
 
 seen : (now w : View) → w ≡ now → now.numbers ≡ w.numbers
@@ -53,17 +53,17 @@ seen now w e = ap (λ (x : View). x.numbers) (sym e)
 
 -- At its end.
 
-call_ended : (g : _) (c : goal.In-Ended g) → IsCall c.self.inside.journal c.self.inside.tables c.self.inside.txns.items c.self.inside.waiting.items c.self.inside.lanes c.args.place c.args.txn c.args.self.now c.code_of-code.result.now.nodes c.state-state.result.now c.next_kind.result
+call_ended : (g : _) (c : goal.In-Ended g) → IsCall c.self.inside.journal c.self.inside.tables c.self.inside.txns.items (numbers_waiting c.self.inside.waiting) c.self.inside.lanes c.args.place c.args.txn c.args.self.now c.code_of-code.result.now.nodes c.state-state.result.now c.next_kind.result
 call_ended g c =
     let i = c.self.inside in
-    let v = at_view i.journal i.tables i.txns.items i.waiting.items i.lanes _ _ c.args.place c.args.txn c.args.self.now c.self.view_is c.self.invariant.0 c.requires.place in
-    call_is i.journal i.tables i.txns.items i.waiting.items i.lanes c.args.place c.args.txn c.args.self.now c.code_of-code.result.now.nodes c.state-state.result.now c.next_kind.result c.self.invariant.0 v c.state-state.ensures.state
+    let v = at_view i.journal i.tables i.txns.items (numbers_waiting i.waiting) i.lanes _ _ c.args.place c.args.txn c.args.self.now c.self.view_is c.self.invariant.0 c.requires.place in
+    call_is i.journal i.tables i.txns.items (numbers_waiting i.waiting) i.lanes c.args.place c.args.txn c.args.self.now c.code_of-code.result.now.nodes c.state-state.result.now c.next_kind.result c.self.invariant.0 v c.state-state.ensures.state
     (c.code_of-code.ensures ∙ ap (λ xs. nodes_at xs c.args.txn) c.deref.ensures.value) c.next_kind.ensures.kind c.next_kind.ensures.ended
 
 err : (g : _) (c : goal.In-Ended g) (r : Started) → find_started c.args.self.now.numbers.started c.args.txn ≡ Some r → step_role c.args.self.now.numbers Optimistic r ≡ Err HasEnded
 err g c r found =
     let i = c.self.inside in
-    has_ended_is i.journal i.tables i.txns.items i.waiting.items i.lanes c.args.place c.args.txn c.args.self.now c.code_of-code.result.now.nodes c.state-state.result.now c.next_kind.result (call_ended g c) c.in-Ended.is r found (seen c.args.self.now _ c.self.view_is)
+    has_ended_is i.journal i.tables i.txns.items (numbers_waiting i.waiting) i.lanes c.args.place c.args.txn c.args.self.now c.code_of-code.result.now.nodes c.state-state.result.now c.next_kind.result (call_ended g c) c.in-Ended.is r found (seen c.args.self.now _ c.self.view_is)
 
 pub returns-in-Ended-clause-answer : goal.returns-in-Ended-clause-answer
 returns-in-Ended-clause-answer g c = λ r found. sym (ap step_answer (err g c r found))
@@ -79,24 +79,24 @@ returns-in-Ended-clause-ticks g c = λ r found. let none = ap step_ticks (err g 
 pub step-requires-clause-place : goal.step-requires-clause-place
 step-requires-clause-place g c =
     let i = c.self.inside in
-    let v = at_view i.journal i.tables i.txns.items i.waiting.items i.lanes _ _ c.args.place c.args.txn c.args.self.now c.self.view_is c.self.invariant.0 c.requires.place in
+    let v = at_view i.journal i.tables i.txns.items (numbers_waiting i.waiting) i.lanes _ _ c.args.place c.args.txn c.args.self.now c.self.view_is c.self.invariant.0 c.requires.place in
     v.a.below
 
 pub step-requires-clause-runs : goal.step-requires-clause-runs
 step-requires-clause-runs g c = λ x there.
     let i = c.self.inside in
-    let v = at_view i.journal i.tables i.txns.items i.waiting.items i.lanes _ _ c.args.place c.args.txn c.args.self.now c.self.view_is c.self.invariant.0 c.requires.place in
-    may_go i.journal i.tables i.txns.items i.waiting.items i.lanes c.args.place c.args.txn c.args.self.now c.code_of-code.result.now.nodes c.state-state.result.now c.next_kind.result (call_is i.journal i.tables i.txns.items i.waiting.items i.lanes c.args.place c.args.txn c.args.self.now c.code_of-code.result.now.nodes c.state-state.result.now c.next_kind.result c.self.invariant.0 v c.state-state.ensures.state (c.code_of-code.ensures ∙ ap (λ xs. nodes_at xs c.args.txn) c.deref.ensures.value) c.next_kind.ensures.kind c.next_kind.ensures.ended) (λ e. let q : kind.Local ≡ kind.Ended = sym c.in-Local.is ∙ e in cc) x there
+    let v = at_view i.journal i.tables i.txns.items (numbers_waiting i.waiting) i.lanes _ _ c.args.place c.args.txn c.args.self.now c.self.view_is c.self.invariant.0 c.requires.place in
+    may_go i.journal i.tables i.txns.items (numbers_waiting i.waiting) i.lanes c.args.place c.args.txn c.args.self.now c.code_of-code.result.now.nodes c.state-state.result.now c.next_kind.result (call_is i.journal i.tables i.txns.items (numbers_waiting i.waiting) i.lanes c.args.place c.args.txn c.args.self.now c.code_of-code.result.now.nodes c.state-state.result.now c.next_kind.result c.self.invariant.0 v c.state-state.ensures.state (c.code_of-code.ensures ∙ ap (λ xs. nodes_at xs c.args.txn) c.deref.ensures.value) c.next_kind.ensures.kind c.next_kind.ensures.ended) (λ e. let q : kind.Local ≡ kind.Ended = sym c.in-Local.is ∙ e in cc) x there
 
-local_is : (g : _) (c : goal.After-step g) → IsOptimisticStep c.self.inside.journal c.self.inside.tables c.self.inside.txns.items c.self.inside.waiting.items c.args.txn c.args.self.now c.position-position.result c.step.new.self
+local_is : (g : _) (c : goal.After-step g) → IsOptimisticStep c.self.inside.journal c.self.inside.tables c.self.inside.txns.items (numbers_waiting c.self.inside.waiting) c.args.txn c.args.self.now c.position-position.result c.step.new.self
 local_is g c =
     let i = c.self.inside in
-    let v = at_view i.journal i.tables i.txns.items i.waiting.items i.lanes _ _ c.args.place c.args.txn c.args.self.now c.self.view_is c.self.invariant.0 c.requires.place in
+    let v = at_view i.journal i.tables i.txns.items (numbers_waiting i.waiting) i.lanes _ _ c.args.place c.args.txn c.args.self.now c.self.view_is c.self.invariant.0 c.requires.place in
     let e = c.step.ensures.seats in
-    local_call i.journal i.tables i.txns.items i.waiting.items i.lanes c.args.place c.args.txn c.args.self.now c.code_of-code.result.now.nodes c.state-state.result.now c.next_kind.result (call_is i.journal i.tables i.txns.items i.waiting.items i.lanes c.args.place c.args.txn c.args.self.now c.code_of-code.result.now.nodes c.state-state.result.now c.next_kind.result c.self.invariant.0 v c.state-state.ensures.state (c.code_of-code.ensures ∙ ap (λ xs. nodes_at xs c.args.txn) c.deref.ensures.value) c.next_kind.ensures.kind c.next_kind.ensures.ended) c.position-position.result e.0 e.1 c.step.new.self c.in-Local.is c.position-position.ensures (seen c.args.self.now _ c.self.view_is) e.2.0 e.2.1.0 e.2.1.1
+    local_call i.journal i.tables i.txns.items (numbers_waiting i.waiting) i.lanes c.args.place c.args.txn c.args.self.now c.code_of-code.result.now.nodes c.state-state.result.now c.next_kind.result (call_is i.journal i.tables i.txns.items (numbers_waiting i.waiting) i.lanes c.args.place c.args.txn c.args.self.now c.code_of-code.result.now.nodes c.state-state.result.now c.next_kind.result c.self.invariant.0 v c.state-state.ensures.state (c.code_of-code.ensures ∙ ap (λ xs. nodes_at xs c.args.txn) c.deref.ensures.value) c.next_kind.ensures.kind c.next_kind.ensures.ended) c.position-position.result e.0 e.1 c.step.new.self c.in-Local.is c.position-position.ensures (seen c.args.self.now _ c.self.view_is) e.2.0 e.2.1.0 e.2.1.1
 
 pub invariant_of-self : goal.invariant_of-self
-invariant_of-self g c = ((local_is g c).kept_all, subst (λ (x : Seated). x.lanes ≤ vec_capacity c.self.inside.resumed) (sym c.step.ensures.seats.2.1.0) c.self.invariant.1)
+invariant_of-self g c = ((local_is g c).kept_all, subst (λ (x : Seated). x.lanes ≤ vec_capacity c.self.inside.resumed) (sym c.step.ensures.seats.2.1.0) c.self.invariant.1, c.self.invariant.2)
 
 pub returns-in-Local-clause-answer : goal.returns-in-Local-clause-answer
 returns-in-Local-clause-answer g c = λ r found. sym (ap step_answer ((local_is g c).result r found))
@@ -114,45 +114,45 @@ returns-in-Local-clause-ticks g c = λ r found. let one = ap step_ticks ((local_
 pub wanted_at-conflicts-requires : goal.wanted_at-conflicts-requires
 wanted_at-conflicts-requires g c =
     let i = c.self.inside in
-    let v = at_view i.journal i.tables i.txns.items i.waiting.items i.lanes _ _ c.args.place c.args.txn c.args.self.now c.self.view_is c.self.invariant.0 c.requires.place in
+    let v = at_view i.journal i.tables i.txns.items (numbers_waiting i.waiting) i.lanes _ _ c.args.place c.args.txn c.args.self.now c.self.view_is c.self.invariant.0 c.requires.place in
     v.a.below
 
 pub renew-requires-clause-place : goal.renew-requires-clause-place
 renew-requires-clause-place g c =
     let i = c.self.inside in
-    let v = at_view i.journal i.tables i.txns.items i.waiting.items i.lanes _ _ c.args.place c.args.txn c.args.self.now c.self.view_is c.self.invariant.0 c.requires.place in
+    let v = at_view i.journal i.tables i.txns.items (numbers_waiting i.waiting) i.lanes _ _ c.args.place c.args.txn c.args.self.now c.self.view_is c.self.invariant.0 c.requires.place in
     v.a.below
 
 pub renew-requires-clause-carries : goal.renew-requires-clause-carries
 renew-requires-clause-carries g c =
     let i = c.self.inside in
-    let v = at_view i.journal i.tables i.txns.items i.waiting.items i.lanes _ _ c.args.place c.args.txn c.args.self.now c.self.view_is c.self.invariant.0 c.requires.place in
+    let v = at_view i.journal i.tables i.txns.items (numbers_waiting i.waiting) i.lanes _ _ c.args.place c.args.txn c.args.self.now c.self.view_is c.self.invariant.0 c.requires.place in
     subst (λ ns. Carries ns i.lanes.items) (sym (c.code_of-code.ensures ∙ ap (λ xs. nodes_at xs c.args.txn) c.deref.ensures.value)) (carries i.journal i.tables i.txns.items i.lanes c.args.place c.args.txn v.started v.a)
 
 pub step-requires-in-TableRead-clause-place : goal.step-requires-in-TableRead-clause-place
 step-requires-in-TableRead-clause-place g c =
     let i = c.self.inside in
-    let v = at_view i.journal i.tables i.txns.items i.waiting.items i.lanes _ _ c.args.place c.args.txn c.args.self.now c.self.view_is c.self.invariant.0 c.requires.place in
-    renewed_below i.journal i.tables i.txns.items i.waiting.items i.lanes c.args.place c.args.txn c.args.self.now c.code_of-code.result.now.nodes c.state-state.result.now c.next_kind.result (call_is i.journal i.tables i.txns.items i.waiting.items i.lanes c.args.place c.args.txn c.args.self.now c.code_of-code.result.now.nodes c.state-state.result.now c.next_kind.result c.self.invariant.0 v c.state-state.ensures.state (c.code_of-code.ensures ∙ ap (λ xs. nodes_at xs c.args.txn) c.deref.ensures.value) c.next_kind.ensures.kind c.next_kind.ensures.ended) c.position-position.result c.renew.new.lanes _ c.renew.ensures
+    let v = at_view i.journal i.tables i.txns.items (numbers_waiting i.waiting) i.lanes _ _ c.args.place c.args.txn c.args.self.now c.self.view_is c.self.invariant.0 c.requires.place in
+    renewed_below i.journal i.tables i.txns.items (numbers_waiting i.waiting) i.lanes c.args.place c.args.txn c.args.self.now c.code_of-code.result.now.nodes c.state-state.result.now c.next_kind.result (call_is i.journal i.tables i.txns.items (numbers_waiting i.waiting) i.lanes c.args.place c.args.txn c.args.self.now c.code_of-code.result.now.nodes c.state-state.result.now c.next_kind.result c.self.invariant.0 v c.state-state.ensures.state (c.code_of-code.ensures ∙ ap (λ xs. nodes_at xs c.args.txn) c.deref.ensures.value) c.next_kind.ensures.kind c.next_kind.ensures.ended) c.position-position.result c.renew.new.lanes _ c.renew.ensures
 
 pub step-requires-in-TableRead-clause-runs : goal.step-requires-in-TableRead-clause-runs
 step-requires-in-TableRead-clause-runs g c = λ x there.
     let i = c.self.inside in
-    let v = at_view i.journal i.tables i.txns.items i.waiting.items i.lanes _ _ c.args.place c.args.txn c.args.self.now c.self.view_is c.self.invariant.0 c.requires.place in
-    renewed_go i.journal i.tables i.txns.items i.waiting.items i.lanes c.args.place c.args.txn c.args.self.now c.code_of-code.result.now.nodes c.state-state.result.now c.next_kind.result (call_is i.journal i.tables i.txns.items i.waiting.items i.lanes c.args.place c.args.txn c.args.self.now c.code_of-code.result.now.nodes c.state-state.result.now c.next_kind.result c.self.invariant.0 v c.state-state.ensures.state (c.code_of-code.ensures ∙ ap (λ xs. nodes_at xs c.args.txn) c.deref.ensures.value) c.next_kind.ensures.kind c.next_kind.ensures.ended) c.position-position.result c.renew.new.lanes _ (λ e. let q : kind.TableRead c.in-TableRead.item ≡ kind.Ended = sym c.in-TableRead.is ∙ e in cc) c.renew.ensures x there
+    let v = at_view i.journal i.tables i.txns.items (numbers_waiting i.waiting) i.lanes _ _ c.args.place c.args.txn c.args.self.now c.self.view_is c.self.invariant.0 c.requires.place in
+    renewed_go i.journal i.tables i.txns.items (numbers_waiting i.waiting) i.lanes c.args.place c.args.txn c.args.self.now c.code_of-code.result.now.nodes c.state-state.result.now c.next_kind.result (call_is i.journal i.tables i.txns.items (numbers_waiting i.waiting) i.lanes c.args.place c.args.txn c.args.self.now c.code_of-code.result.now.nodes c.state-state.result.now c.next_kind.result c.self.invariant.0 v c.state-state.ensures.state (c.code_of-code.ensures ∙ ap (λ xs. nodes_at xs c.args.txn) c.deref.ensures.value) c.next_kind.ensures.kind c.next_kind.ensures.ended) c.position-position.result c.renew.new.lanes _ (λ e. let q : kind.TableRead c.in-TableRead.item ≡ kind.Ended = sym c.in-TableRead.is ∙ e in cc) c.renew.ensures x there
 
-read_is : (g : _) (c : goal.After-step-in-TableRead g) → IsOptimisticStep c.self.inside.journal c.self.inside.tables c.self.inside.txns.items c.self.inside.waiting.items c.args.txn c.args.self.now c.position-position.result c.step-in-TableRead.new.self
+read_is : (g : _) (c : goal.After-step-in-TableRead g) → IsOptimisticStep c.self.inside.journal c.self.inside.tables c.self.inside.txns.items (numbers_waiting c.self.inside.waiting) c.args.txn c.args.self.now c.position-position.result c.step-in-TableRead.new.self
 read_is g c =
     let i = c.self.inside in
-    let v = at_view i.journal i.tables i.txns.items i.waiting.items i.lanes _ _ c.args.place c.args.txn c.args.self.now c.self.view_is c.self.invariant.0 c.requires.place in
+    let v = at_view i.journal i.tables i.txns.items (numbers_waiting i.waiting) i.lanes _ _ c.args.place c.args.txn c.args.self.now c.self.view_is c.self.invariant.0 c.requires.place in
     let e = c.step-in-TableRead.ensures.seats in
-    read_call i.journal i.tables i.txns.items i.waiting.items i.lanes c.args.place c.args.txn c.args.self.now c.code_of-code.result.now.nodes c.state-state.result.now c.next_kind.result (call_is i.journal i.tables i.txns.items i.waiting.items i.lanes c.args.place c.args.txn c.args.self.now c.code_of-code.result.now.nodes c.state-state.result.now c.next_kind.result c.self.invariant.0 v c.state-state.ensures.state (c.code_of-code.ensures ∙ ap (λ xs. nodes_at xs c.args.txn) c.deref.ensures.value) c.next_kind.ensures.kind c.next_kind.ensures.ended) c.position-position.result c.in-TableRead.item _ c.renew.new.lanes e.0 e.1 c.step-in-TableRead.new.self c.in-TableRead.is c.position-position.ensures (seen c.args.self.now _ c.self.view_is) (λ r there. c.as_slice.ensures.value ∙ c.wanted_at-conflicts.ensures.wanted r there) c.renew.ensures e.2.0 e.2.1.0 e.2.1.1
+    read_call i.journal i.tables i.txns.items (numbers_waiting i.waiting) i.lanes c.args.place c.args.txn c.args.self.now c.code_of-code.result.now.nodes c.state-state.result.now c.next_kind.result (call_is i.journal i.tables i.txns.items (numbers_waiting i.waiting) i.lanes c.args.place c.args.txn c.args.self.now c.code_of-code.result.now.nodes c.state-state.result.now c.next_kind.result c.self.invariant.0 v c.state-state.ensures.state (c.code_of-code.ensures ∙ ap (λ xs. nodes_at xs c.args.txn) c.deref.ensures.value) c.next_kind.ensures.kind c.next_kind.ensures.ended) c.position-position.result c.in-TableRead.item _ c.renew.new.lanes e.0 e.1 c.step-in-TableRead.new.self c.in-TableRead.is c.position-position.ensures (seen c.args.self.now _ c.self.view_is) (λ r there. c.as_slice.ensures.value ∙ c.wanted_at-conflicts.ensures.wanted r there) c.renew.ensures e.2.0 e.2.1.0 e.2.1.1
 
 pub invariant_of-self-in-TableRead : goal.invariant_of-self-in-TableRead
 invariant_of-self-in-TableRead g c =
     let step : c.step-in-TableRead.new.self.lanes ≡ c.renew.new.lanes.lanes = ap (λ (x : Seated). x.lanes) c.step-in-TableRead.ensures.seats.2.1.0 in
     let renewed : c.renew.new.lanes.lanes ≡ c.self.inside.lanes.lanes = ap (λ (x : Seated). x.lanes) c.renew.ensures in
-    ((read_is g c).kept_all, subst (λ n. n ≤ vec_capacity c.self.inside.resumed) (sym (step ∙ renewed)) c.self.invariant.1)
+    ((read_is g c).kept_all, subst (λ n. n ≤ vec_capacity c.self.inside.resumed) (sym (step ∙ renewed)) c.self.invariant.1, c.self.invariant.2)
 
 pub returns-in-TableRead-clause-answer : goal.returns-in-TableRead-clause-answer
 returns-in-TableRead-clause-answer g c = λ r found. sym (ap step_answer ((read_is g c).result r found))
@@ -170,36 +170,36 @@ returns-in-TableRead-clause-ticks g c = λ r found. let one = ap step_ticks ((re
 pub step-requires-in-Write-clause-place : goal.step-requires-in-Write-clause-place
 step-requires-in-Write-clause-place g c =
     let i = c.self.inside in
-    let v = at_view i.journal i.tables i.txns.items i.waiting.items i.lanes _ _ c.args.place c.args.txn c.args.self.now c.self.view_is c.self.invariant.0 c.requires.place in
+    let v = at_view i.journal i.tables i.txns.items (numbers_waiting i.waiting) i.lanes _ _ c.args.place c.args.txn c.args.self.now c.self.view_is c.self.invariant.0 c.requires.place in
     v.a.below
 
 pub step-requires-in-Write-clause-runs : goal.step-requires-in-Write-clause-runs
 step-requires-in-Write-clause-runs g c = λ x there.
     let i = c.self.inside in
-    let v = at_view i.journal i.tables i.txns.items i.waiting.items i.lanes _ _ c.args.place c.args.txn c.args.self.now c.self.view_is c.self.invariant.0 c.requires.place in
-    may_go i.journal i.tables i.txns.items i.waiting.items i.lanes c.args.place c.args.txn c.args.self.now c.code_of-code.result.now.nodes c.state-state.result.now c.next_kind.result (call_is i.journal i.tables i.txns.items i.waiting.items i.lanes c.args.place c.args.txn c.args.self.now c.code_of-code.result.now.nodes c.state-state.result.now c.next_kind.result c.self.invariant.0 v c.state-state.ensures.state (c.code_of-code.ensures ∙ ap (λ xs. nodes_at xs c.args.txn) c.deref.ensures.value) c.next_kind.ensures.kind c.next_kind.ensures.ended) (λ e. let q : kind.Write c.in-Write.item c.in-Write.value ≡ kind.Ended = sym c.in-Write.is ∙ e in cc) x there
+    let v = at_view i.journal i.tables i.txns.items (numbers_waiting i.waiting) i.lanes _ _ c.args.place c.args.txn c.args.self.now c.self.view_is c.self.invariant.0 c.requires.place in
+    may_go i.journal i.tables i.txns.items (numbers_waiting i.waiting) i.lanes c.args.place c.args.txn c.args.self.now c.code_of-code.result.now.nodes c.state-state.result.now c.next_kind.result (call_is i.journal i.tables i.txns.items (numbers_waiting i.waiting) i.lanes c.args.place c.args.txn c.args.self.now c.code_of-code.result.now.nodes c.state-state.result.now c.next_kind.result c.self.invariant.0 v c.state-state.ensures.state (c.code_of-code.ensures ∙ ap (λ xs. nodes_at xs c.args.txn) c.deref.ensures.value) c.next_kind.ensures.kind c.next_kind.ensures.ended) (λ e. let q : kind.Write c.in-Write.item c.in-Write.value ≡ kind.Ended = sym c.in-Write.is ∙ e in cc) x there
 
 pub renew_all-requires : goal.renew_all-requires
 renew_all-requires g c =
     let i = c.self.inside in
-    let v = at_view i.journal i.tables i.txns.items i.waiting.items i.lanes _ _ c.args.place c.args.txn c.args.self.now c.self.view_is c.self.invariant.0 c.requires.place in
+    let v = at_view i.journal i.tables i.txns.items (numbers_waiting i.waiting) i.lanes _ _ c.args.place c.args.txn c.args.self.now c.self.view_is c.self.invariant.0 c.requires.place in
     let e = c.step-in-Write.ensures.seats in
     subst (λ xs. AreCarried c.step-in-Write.new.self.items xs c.step-in-Write.new.self.seats) (sym c.deref-in-Write.ensures.value)
-    (write_all_carried i.journal i.tables i.txns.items i.waiting.items i.lanes c.args.place c.args.txn c.args.self.now c.code_of-code.result.now.nodes c.state-state.result.now c.next_kind.result (call_is i.journal i.tables i.txns.items i.waiting.items i.lanes c.args.place c.args.txn c.args.self.now c.code_of-code.result.now.nodes c.state-state.result.now c.next_kind.result c.self.invariant.0 v c.state-state.ensures.state (c.code_of-code.ensures ∙ ap (λ xs. nodes_at xs c.args.txn) c.deref.ensures.value) c.next_kind.ensures.kind c.next_kind.ensures.ended) c.position-position.result e.0 e.1 c.step-in-Write.new.self (λ e. let q : kind.Write c.in-Write.item c.in-Write.value ≡ kind.Ended = sym c.in-Write.is ∙ e in cc) e.2.0 e.2.1.1 e.2.1.0)
+    (write_all_carried i.journal i.tables i.txns.items (numbers_waiting i.waiting) i.lanes c.args.place c.args.txn c.args.self.now c.code_of-code.result.now.nodes c.state-state.result.now c.next_kind.result (call_is i.journal i.tables i.txns.items (numbers_waiting i.waiting) i.lanes c.args.place c.args.txn c.args.self.now c.code_of-code.result.now.nodes c.state-state.result.now c.next_kind.result c.self.invariant.0 v c.state-state.ensures.state (c.code_of-code.ensures ∙ ap (λ xs. nodes_at xs c.args.txn) c.deref.ensures.value) c.next_kind.ensures.kind c.next_kind.ensures.ended) c.position-position.result e.0 e.1 c.step-in-Write.new.self (λ e. let q : kind.Write c.in-Write.item c.in-Write.value ≡ kind.Ended = sym c.in-Write.is ∙ e in cc) e.2.0 e.2.1.1 e.2.1.0)
 
-write_is : (g : _) (c : goal.After-renew_all g) → IsOptimisticStep c.self.inside.journal c.self.inside.tables c.self.inside.txns.items c.self.inside.waiting.items c.args.txn c.args.self.now c.position-position.result c.renew_all.new.lanes
+write_is : (g : _) (c : goal.After-renew_all g) → IsOptimisticStep c.self.inside.journal c.self.inside.tables c.self.inside.txns.items (numbers_waiting c.self.inside.waiting) c.args.txn c.args.self.now c.position-position.result c.renew_all.new.lanes
 write_is g c =
     let i = c.self.inside in
-    let v = at_view i.journal i.tables i.txns.items i.waiting.items i.lanes _ _ c.args.place c.args.txn c.args.self.now c.self.view_is c.self.invariant.0 c.requires.place in
+    let v = at_view i.journal i.tables i.txns.items (numbers_waiting i.waiting) i.lanes _ _ c.args.place c.args.txn c.args.self.now c.self.view_is c.self.invariant.0 c.requires.place in
     let e = c.step-in-Write.ensures.seats in
-    write_call i.journal i.tables i.txns.items i.waiting.items i.lanes c.args.place c.args.txn c.args.self.now c.code_of-code.result.now.nodes c.state-state.result.now c.next_kind.result (call_is i.journal i.tables i.txns.items i.waiting.items i.lanes c.args.place c.args.txn c.args.self.now c.code_of-code.result.now.nodes c.state-state.result.now c.next_kind.result c.self.invariant.0 v c.state-state.ensures.state (c.code_of-code.ensures ∙ ap (λ xs. nodes_at xs c.args.txn) c.deref.ensures.value) c.next_kind.ensures.kind c.next_kind.ensures.ended) c.position-position.result c.in-Write.item c.in-Write.value c.step-in-Write.new.self e.0 e.1 c.renew_all.new.lanes c.in-Write.is c.position-position.ensures (seen c.args.self.now _ c.self.view_is) e.2.0 e.2.1.0 e.2.1.1
+    write_call i.journal i.tables i.txns.items (numbers_waiting i.waiting) i.lanes c.args.place c.args.txn c.args.self.now c.code_of-code.result.now.nodes c.state-state.result.now c.next_kind.result (call_is i.journal i.tables i.txns.items (numbers_waiting i.waiting) i.lanes c.args.place c.args.txn c.args.self.now c.code_of-code.result.now.nodes c.state-state.result.now c.next_kind.result c.self.invariant.0 v c.state-state.ensures.state (c.code_of-code.ensures ∙ ap (λ xs. nodes_at xs c.args.txn) c.deref.ensures.value) c.next_kind.ensures.kind c.next_kind.ensures.ended) c.position-position.result c.in-Write.item c.in-Write.value c.step-in-Write.new.self e.0 e.1 c.renew_all.new.lanes c.in-Write.is c.position-position.ensures (seen c.args.self.now _ c.self.view_is) e.2.0 e.2.1.0 e.2.1.1
     (c.renew_all.ensures ∙ ap (λ xs. record c.step-in-Write.new.self { seats = all_renewed c.step-in-Write.new.self.most c.step-in-Write.new.self.items xs c.step-in-Write.new.self.seats }) c.deref-in-Write.ensures.value)
 
 pub invariant_of-self-in-Write : goal.invariant_of-self-in-Write
 invariant_of-self-in-Write g c =
     let step : c.step-in-Write.new.self.lanes ≡ c.self.inside.lanes.lanes = ap (λ (x : Seated). x.lanes) c.step-in-Write.ensures.seats.2.1.0 in
     let renewed : c.renew_all.new.lanes.lanes ≡ c.step-in-Write.new.self.lanes = ap (λ (x : Seated). x.lanes) c.renew_all.ensures in
-    ((write_is g c).kept_all, subst (λ n. n ≤ vec_capacity c.self.inside.resumed) (sym (renewed ∙ step)) c.self.invariant.1)
+    ((write_is g c).kept_all, subst (λ n. n ≤ vec_capacity c.self.inside.resumed) (sym (renewed ∙ step)) c.self.invariant.1, c.self.invariant.2)
 
 pub returns-in-Write-clause-answer : goal.returns-in-Write-clause-answer
 returns-in-Write-clause-answer g c = λ r found. sym (ap step_answer ((write_is g c).result r found))

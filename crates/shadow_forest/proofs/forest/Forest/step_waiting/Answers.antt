@@ -12,7 +12,7 @@ use Rattle.shadow_lanes.specs.Seats.{Seated, conflicts_of}
 use Rattle.shadow_forest.specs.View.{View, with_numbers}
 use Rattle.shadow_forest.specs.Answers.{step_answer, step_ticks}
 use Rattle.shadow_forest.specs.Parts.{slot_of, nodes_at}
-use Rattle.shadow_forest.specs.Kept.{forest_of}
+use Rattle.shadow_forest.specs.Kept.{numbers_waiting, forest_of}
 use Rattle.shadow_forest.specs.declared.txn.Txn.{Txn}
 use Rattle.shadow_forest.proofs.Placing.{IsAt, at_view, some_same}
 use Rattle.shadow_forest.proofs.Stepping.{known, listed, slotted, may_step, small_position, standing_known, guard_none, guard_blocked, IsStepped, stepped}
@@ -26,7 +26,7 @@ lent journal d kept s at t r a list e = some_same _ _ (sym (ap (option_map confl
 pub slot_for-requires : goal.slot_for-requires
 slot_for-requires g c =
     let i = c.self.inside in
-    let v = at_view i.journal i.tables i.txns.items i.waiting.items i.lanes _ _ c.args.place c.args.txn c.args.self.now c.self.view_is c.self.invariant.0 c.requires.place in
+    let v = at_view i.journal i.tables i.txns.items (numbers_waiting i.waiting) i.lanes _ _ c.args.place c.args.txn c.args.self.now c.self.view_is c.self.invariant.0 c.requires.place in
     subst (λ xs. length xs ≤ 7) (lent i.journal i.tables i.txns.items i.lanes c.args.place c.args.txn v.started v.a c.conflicts.result.now c.conflicts.ensures) v.a.few
 
 -- No shadow waits for the guard.
@@ -34,7 +34,7 @@ slot_for-requires g c =
 no_shadow_is : (g : _) (c : goal.In_default g) (r : Started) → find_started c.args.self.now.numbers.started c.args.txn ≡ Some r → step_role c.args.self.now.numbers (Guard c.args.guard) r ≡ Err NoShadow
 no_shadow_is g c r found =
     let i = c.self.inside in
-    let v = at_view i.journal i.tables i.txns.items i.waiting.items i.lanes _ _ c.args.place c.args.txn c.args.self.now c.self.view_is c.self.invariant.0 c.requires.place in
+    let v = at_view i.journal i.tables i.txns.items (numbers_waiting i.waiting) i.lanes _ _ c.args.place c.args.txn c.args.self.now c.self.view_is c.self.invariant.0 c.requires.place in
     let none : slot_of (conflicts_of v.a.seat) c.args.guard ≡ None =
     ap (λ xs. slot_of xs c.args.guard) (lent i.journal i.tables i.txns.items i.lanes c.args.place c.args.txn v.started v.a c.conflicts.result.now c.conflicts.ensures) ∙ sym c.slot_for.ensures ∙ c.in_default.is
     in
@@ -55,13 +55,13 @@ returns-in_default-clause-ticks g c = λ r found. let none = ap step_ticks (no_s
 pub conflicts-requires-2 : goal.conflicts-requires-2
 conflicts-requires-2 g c =
     let i = c.self.inside in
-    let v = at_view i.journal i.tables i.txns.items i.waiting.items i.lanes _ _ c.args.place c.args.txn c.args.self.now c.self.view_is c.self.invariant.0 c.requires.place in
+    let v = at_view i.journal i.tables i.txns.items (numbers_waiting i.waiting) i.lanes _ _ c.args.place c.args.txn c.args.self.now c.self.view_is c.self.invariant.0 c.requires.place in
     v.a.below
 
 in_list : (g : _) (c : goal.After-conflicts-2 g) → (1 ≤ c.in-Some.slot) × (c.in-Some.slot - 1 < length c.conflicts-2.result.now)
 in_list g c =
     let i = c.self.inside in
-    let v = at_view i.journal i.tables i.txns.items i.waiting.items i.lanes _ _ c.args.place c.args.txn c.args.self.now c.self.view_is c.self.invariant.0 c.requires.place in
+    let v = at_view i.journal i.tables i.txns.items (numbers_waiting i.waiting) i.lanes _ _ c.args.place c.args.txn c.args.self.now c.self.view_is c.self.invariant.0 c.requires.place in
     listed i.journal i.tables i.txns.items i.lanes c.args.place c.args.txn c.args.self.now c.args.guard c.in-Some.slot v c.conflicts.result.now c.conflicts-2.result.now
     c.conflicts.ensures (sym c.slot_for.ensures ∙ c.in-Some.is) c.conflicts-2.ensures
 
@@ -74,37 +74,37 @@ bounds-conflicts-slot g c = (in_list g c).1
 pub state-requires-clause-place : goal.state-requires-clause-place
 state-requires-clause-place g c =
     let i = c.self.inside in
-    let v = at_view i.journal i.tables i.txns.items i.waiting.items i.lanes _ _ c.args.place c.args.txn c.args.self.now c.self.view_is c.self.invariant.0 c.requires.place in
+    let v = at_view i.journal i.tables i.txns.items (numbers_waiting i.waiting) i.lanes _ _ c.args.place c.args.txn c.args.self.now c.self.view_is c.self.invariant.0 c.requires.place in
     v.a.below
 
 pub code_of-code-requires-clause-least : goal.code_of-code-requires-clause-least
 code_of-code-requires-clause-least g c =
     let i = c.self.inside in
-    let v = at_view i.journal i.tables i.txns.items i.waiting.items i.lanes _ _ c.args.place c.args.txn c.args.self.now c.self.view_is c.self.invariant.0 c.requires.place in
+    let v = at_view i.journal i.tables i.txns.items (numbers_waiting i.waiting) i.lanes _ _ c.args.place c.args.txn c.args.self.now c.self.view_is c.self.invariant.0 c.requires.place in
     v.a.least
 
 pub code_of-code-requires-clause-most : goal.code_of-code-requires-clause-most
 code_of-code-requires-clause-most g c =
     let i = c.self.inside in
-    let v = at_view i.journal i.tables i.txns.items i.waiting.items i.lanes _ _ c.args.place c.args.txn c.args.self.now c.self.view_is c.self.invariant.0 c.requires.place in
+    let v = at_view i.journal i.tables i.txns.items (numbers_waiting i.waiting) i.lanes _ _ c.args.place c.args.txn c.args.self.now c.self.view_is c.self.invariant.0 c.requires.place in
     subst (λ xs. c.args.txn ≤ length xs) (sym c.deref.ensures.value) v.a.most
 
 pub step-requires-clause-place : goal.step-requires-clause-place
 step-requires-clause-place g c =
     let i = c.self.inside in
-    let v = at_view i.journal i.tables i.txns.items i.waiting.items i.lanes _ _ c.args.place c.args.txn c.args.self.now c.self.view_is c.self.invariant.0 c.requires.place in
+    let v = at_view i.journal i.tables i.txns.items (numbers_waiting i.waiting) i.lanes _ _ c.args.place c.args.txn c.args.self.now c.self.view_is c.self.invariant.0 c.requires.place in
     v.a.below
 
 pub state-requires-clause-slot : goal.state-requires-clause-slot
 state-requires-clause-slot g c = λ r there.
     let i = c.self.inside in
-    let v = at_view i.journal i.tables i.txns.items i.waiting.items i.lanes _ _ c.args.place c.args.txn c.args.self.now c.self.view_is c.self.invariant.0 c.requires.place in
+    let v = at_view i.journal i.tables i.txns.items (numbers_waiting i.waiting) i.lanes _ _ c.args.place c.args.txn c.args.self.now c.self.view_is c.self.invariant.0 c.requires.place in
     slotted i.journal i.tables i.txns.items i.lanes c.args.place c.args.txn c.args.self.now c.args.guard c.in-Some.slot v c.conflicts.result.now c.conflicts.ensures (sym c.slot_for.ensures ∙ c.in-Some.is) r there
 
 pub step-requires-clause-runs : goal.step-requires-clause-runs
 step-requires-clause-runs g c = λ x there.
     let i = c.self.inside in
-    let v = at_view i.journal i.tables i.txns.items i.waiting.items i.lanes _ _ c.args.place c.args.txn c.args.self.now c.self.view_is c.self.invariant.0 c.requires.place in
+    let v = at_view i.journal i.tables i.txns.items (numbers_waiting i.waiting) i.lanes _ _ c.args.place c.args.txn c.args.self.now c.self.view_is c.self.invariant.0 c.requires.place in
     let k = known i.journal i.tables i.txns.items i.lanes c.args.place c.args.txn c.args.self.now c.args.guard c.in-Some.slot v c.conflicts.result.now c.conflicts-2.result.now c.state.result.now
     c.conflicts.ensures (sym c.slot_for.ensures ∙ c.in-Some.is) c.conflicts-2.ensures c.state.ensures.state
     in
@@ -114,7 +114,7 @@ step-requires-clause-runs g c = λ x there.
 pub overflow_add-result : goal.overflow_add-result
 overflow_add-result g c =
     let i = c.self.inside in
-    let v = at_view i.journal i.tables i.txns.items i.waiting.items i.lanes _ _ c.args.place c.args.txn c.args.self.now c.self.view_is c.self.invariant.0 c.requires.place in
+    let v = at_view i.journal i.tables i.txns.items (numbers_waiting i.waiting) i.lanes _ _ c.args.place c.args.txn c.args.self.now c.self.view_is c.self.invariant.0 c.requires.place in
     let k = known i.journal i.tables i.txns.items i.lanes c.args.place c.args.txn c.args.self.now c.args.guard c.in-Some.slot v c.conflicts.result.now c.conflicts-2.result.now c.state.result.now
     c.conflicts.ensures (sym c.slot_for.ensures ∙ c.in-Some.is) c.conflicts-2.ensures c.state.ensures.state
     in
@@ -122,22 +122,22 @@ overflow_add-result g c =
     let is = c.position-position.ensures in
     omega (arith, low, is)
 
-is_stepped : (g : _) (c : goal.After-step g) → IsStepped c.self.inside.journal c.self.inside.tables c.self.inside.txns.items c.self.inside.waiting.items c.args.txn c.args.self.now c.args.guard c.position-position.result c.step.new.self
+is_stepped : (g : _) (c : goal.After-step g) → IsStepped c.self.inside.journal c.self.inside.tables c.self.inside.txns.items (numbers_waiting c.self.inside.waiting) c.args.txn c.args.self.now c.args.guard c.position-position.result c.step.new.self
 is_stepped g c =
     let i = c.self.inside in
-    let v = at_view i.journal i.tables i.txns.items i.waiting.items i.lanes _ _ c.args.place c.args.txn c.args.self.now c.self.view_is c.self.invariant.0 c.requires.place in
+    let v = at_view i.journal i.tables i.txns.items (numbers_waiting i.waiting) i.lanes _ _ c.args.place c.args.txn c.args.self.now c.self.view_is c.self.invariant.0 c.requires.place in
     let k = known i.journal i.tables i.txns.items i.lanes c.args.place c.args.txn c.args.self.now c.args.guard c.in-Some.slot v c.conflicts.result.now c.conflicts-2.result.now c.state.result.now
     c.conflicts.ensures (sym c.slot_for.ensures ∙ c.in-Some.is) c.conflicts-2.ensures c.state.ensures.state
     in
     let e = c.step.ensures.seats in
-    stepped i.journal i.tables i.txns.items i.waiting.items i.lanes _ _ c.args.place c.args.txn c.args.self.now c.args.guard c.in-Some.slot c.position-position.result c.conflicts-2.result.now c.state.result.now k
+    stepped i.journal i.tables i.txns.items (numbers_waiting i.waiting) i.lanes _ _ c.args.place c.args.txn c.args.self.now c.args.guard c.in-Some.slot c.position-position.result c.conflicts-2.result.now c.state.result.now k
     c.code_of-code.result.now.nodes e.0 e.1 c.step.new.self c.self.view_is c.self.invariant.0 e.2.0 e.2.1.0 e.2.1.1 (c.code_of-code.ensures ∙ ap (λ xs. nodes_at xs c.args.txn) c.deref.ensures.value) c.position-position.ensures
     (sym c.in-Runnable.is ∙ c.status.ensures)
 
 pub invariant_of-self : goal.invariant_of-self
 invariant_of-self g c =
     let e = c.step.ensures.seats in
-    ((is_stepped g c).kept_all, subst (λ (x : Seated). x.lanes ≤ vec_capacity c.self.inside.resumed) (sym e.2.1.0) c.self.invariant.1)
+    ((is_stepped g c).kept_all, subst (λ (x : Seated). x.lanes ≤ vec_capacity c.self.inside.resumed) (sym e.2.1.0) c.self.invariant.1, c.self.invariant.2)
 
 pub returns-in-Runnable-clause-answer : goal.returns-in-Runnable-clause-answer
 returns-in-Runnable-clause-answer g c = λ r found. sym (ap step_answer ((is_stepped g c).result r found))
@@ -155,7 +155,7 @@ returns-in-Runnable-clause-ticks g c = λ r found. let one = ap step_ticks ((is_
 is_blocked : (g : _) (c : goal.In_default-status g) (r : Started) → find_started c.args.self.now.numbers.started c.args.txn ≡ Some r → step_role c.args.self.now.numbers (Guard c.args.guard) r ≡ Err IsBlocked
 is_blocked g c r found =
     let i = c.self.inside in
-    let v = at_view i.journal i.tables i.txns.items i.waiting.items i.lanes _ _ c.args.place c.args.txn c.args.self.now c.self.view_is c.self.invariant.0 c.requires.place in
+    let v = at_view i.journal i.tables i.txns.items (numbers_waiting i.waiting) i.lanes _ _ c.args.place c.args.txn c.args.self.now c.self.view_is c.self.invariant.0 c.requires.place in
     let k = known i.journal i.tables i.txns.items i.lanes c.args.place c.args.txn c.args.self.now c.args.guard c.in-Some.slot v c.conflicts.result.now c.conflicts-2.result.now c.state.result.now
     c.conflicts.ensures (sym c.slot_for.ensures ∙ c.in-Some.is) c.conflicts-2.ensures c.state.ensures.state
     in

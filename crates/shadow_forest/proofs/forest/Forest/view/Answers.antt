@@ -7,7 +7,7 @@ use Rattle.forest_model.specs.Told.{Look, looks}
 use Rattle.shadow_state.specs.Bank.{Slot}
 use Rattle.shadow_lanes.specs.Seats.{started_of, conflicts_of, slots_of, slot_at}
 use Rattle.shadow_forest.specs.Answers.{outs}
-use Rattle.shadow_forest.specs.Kept.{forest_of}
+use Rattle.shadow_forest.specs.Kept.{numbers_waiting, forest_of}
 use Rattle.shadow_forest.specs.Parts.{role_in}
 use Rattle.shadow_forest.proofs.Elements.{mapped-is}
 use Rattle.shadow_forest.proofs.Slots.{slot-found, slot-there}
@@ -19,7 +19,7 @@ use Rattle.shadow_forest.proofs.forest.Forest.view.Goals as goal
 
 past-at : (c : goal.Then-slot-conflicts) → IsAt (forest_of c.self.inside.journal c.self.inside.tables c.self.inside.lanes) c.self.inside.txns.items c.self.inside.lanes.seats c.args.at
 past-at c =
-    seat-at c.self.inside.journal c.self.inside.tables c.self.inside.txns.items c.self.inside.waiting.items c.self.inside.lanes c.self.invariant.0 c.args.at
+    seat-at c.self.inside.journal c.self.inside.tables c.self.inside.txns.items (numbers_waiting c.self.inside.waiting) c.self.inside.lanes c.self.invariant.0 c.args.at
     (subst (λ v. c.args.at < length v.numbers.started) (sym c.self.view_is) c.requires)
 
 past-slots : (c : goal.Then-slot-conflicts) → length (conflicts_of (past-at c).seat) < c.args.slot
@@ -44,7 +44,7 @@ returns-then-slot-conflicts-clause-out c = λ r e.
 
 at : (c : goal.After-out) → IsAt (forest_of c.self.inside.journal c.self.inside.tables c.self.inside.lanes) c.self.inside.txns.items c.self.inside.lanes.seats c.args.at
 at c =
-    seat-at c.self.inside.journal c.self.inside.tables c.self.inside.txns.items c.self.inside.waiting.items c.self.inside.lanes c.self.invariant.0 c.args.at
+    seat-at c.self.inside.journal c.self.inside.tables c.self.inside.txns.items (numbers_waiting c.self.inside.waiting) c.self.inside.lanes c.self.invariant.0 c.args.at
     (subst (λ v. c.args.at < length v.numbers.started) (sym c.self.view_is) c.requires)
 
 cell : (c : goal.After-out) → (s : Slot) × (slice_get (slots_of (at c).seat) c.args.slot ≡ Some s)
