@@ -205,3 +205,50 @@ pub fn copied<L: Ledger>(
     )?;
     Ok(before && copy && source && second.ended() && state.ended())
 }
+
+// Runs a state by its local steps, at most so many at once, and one step by hand behind each such run, to its end: how many local
+// steps were made each time.
+fn runs_by_parts<L: Ledger>(
+    alloc: Global,
+    state: &mut State,
+    code: &Code,
+    tables: &Table,
+    most: u32,
+    steps: &mut Steps<L>,
+) -> Result<Vec<u32>, AllocError>
+    requires runs { Runs code.now.nodes state.old }
+    requires room { state.old.log.room ≡ length tables.now }
+{
+    let mut made = Vec::new(alloc);
+    for _ in 0..100u32 {
+        made.push(state.run_local(code, most, steps))?;
+        if !step_once(state, code, tables, steps) {
+            break;
+        }
+    }
+    Ok(made)
+}
+
+/// Runs a program in the same way.
+pub fn local_runs<L: Ledger>(
+    blank: Blank,
+    alloc: Global,
+    names: &Names,
+    text: &[u8],
+    tables: &Table,
+    most: u32,
+) -> Result<Vec<u32>, Fail>
+    requires name { blank.name ≡ L.name }
+    requires parts { blank.parts ≡ L.parts }
+    requires one { blank.parts ≡ 1 }
+{
+    let program = read_program(alloc, names, text)?;
+    if !program.fits(tables.len()) {
+        return Ok(Vec::new(alloc));
+    }
+    let code = link(alloc, &program)?;
+    let mut state = begin(alloc, &program, &code, tables.len())?;
+    let mut steps = Steps::<L>::new(blank);
+    let made = runs_by_parts(alloc, &mut state, &code, tables, most, &mut steps)?;
+    Ok(made)
+}

@@ -1,4 +1,4 @@
-use crate::runs::{copied, ending};
+use crate::runs::{copied, ending, local_runs};
 use access_sets::{ReadLog, WriteSet};
 use item_table::Table;
 use std::alloc::{AllocError, Global};
@@ -183,6 +183,34 @@ fn a_copy_goes_on_as_its_source(rt: HostRuntime) -> Result<(), Fail> {
     for at in 0..38u32 {
         let right = goes_on(alloc, &names, &tables, at)?;
         assert!(rt; right, "after {at} steps");
+    }
+    Ok(())
+}
+
+// An own read, a repeated read, a test and a fault are local; a first read and a write that succeeds are not.
+const LOCAL: &str =
+    "{ r0 = 1 + 1; a[1] = r0; r1 = a[1]; r2 = a[2]; r3 = a[2]; if r3 < 9 { } else { b[9] = 1; } }";
+
+// Whether these many local steps are made each time, at most so many at once.
+fn runs_locally(alloc: Global, most: u32, want: &[u32]) -> Result<bool, Fail> {
+    let names = two_tables(alloc)?;
+    let tables = opening(alloc)?;
+    let blank = Blank::new(1);
+    let made = local_runs::<Brand>(blank, alloc, &names, LOCAL.as_bytes(), &tables, most)?;
+    Ok(made.as_slice() == want)
+}
+
+#[test]
+fn local_steps_stop_before_reads_and_writes(rt: HostRuntime) -> Result<(), Fail> {
+    let cases: [(u32, &[u32]); 4] = [
+        (100, &[1, 1, 3]),
+        (3, &[1, 1, 3]),
+        (2, &[1, 1, 2, 0]),
+        (0, &[0, 0, 0, 0, 0, 0, 0, 0]),
+    ];
+    for (most, want) in cases {
+        let right = runs_locally(rt.alloc(), most, want)?;
+        assert!(rt; right, "at most {most} at once");
     }
     Ok(())
 }

@@ -38,7 +38,11 @@ fn before_the_first_transaction(rt: HostRuntime) -> Result<(), Fail> {
 
 #[test]
 fn transactions_wait_for_lanes(rt: HostRuntime) -> Result<(), Fail> {
-    let rows: [(&[u8], &[u8]); 4] = [
+    let rows: [(&[u8], &[u8]); 5] = [
+        (
+            b"begin 1 { emit 1; }\nstep 1 1\nstep 1 0\nstep 2 2\nstep 0\n",
+            b"begin 1 started\nrefuse 29\nrefuse 29\nrefuse 25\nrefuse 25\nend 0\n",
+        ),
         (
             b"begin 1 { }\nbegin 2 { }\nbegin 3 { }\nwithdraw 2\nwithdraw 1\nwithdraw 1\n",
             b"begin 1 started\nbegin 2 waiting\nbegin 3 waiting\nwithdraw 2\nwithdraw 1\nstart 3\nrefuse 25\nend 0\n",

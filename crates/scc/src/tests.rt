@@ -2,6 +2,7 @@
 use crate::top::top_uncounted;
 use scc_ports::{MemSink, MemSource, OpenGate};
 use scc_script::Status;
+use scc_text::put_count;
 use std::alloc::{AllocError, Global};
 use std::marker::Brand;
 use std::sync::Wait;
@@ -128,6 +129,73 @@ fn a_fault_ends_a_run(rt: HostRuntime) -> Result<(), Fail> {
     for case in cases {
         assert!(rt; ends_so(&rt, &SCRIPT, case)?);
     }
+    Ok(())
+}
+
+#[test]
+fn a_reply_is_one_piece(rt: HostRuntime) -> Result<(), Fail> {
+    // A line without an answer makes no call, and all lines that answer one line are one piece.
+    let row = plain(
+        b"# a\n\nbegin 2 { }\nbegin 1 { }\ndrain\n",
+        b"begin 1 started\nbegin 2 waiting\ncommit 1 done\nstart 2\ncommit 2 done\ndrain 2\nend 2\n",
+    );
+    let stopped = Case {
+        status: Status::WriteFault,
+        ..row
+    };
+    let cases = [
+        Case {
+            sink_fails: &[1],
+            written: b"",
+            ..stopped
+        },
+        Case {
+            sink_fails: &[3],
+            written: b"begin 1 started\nbegin 2 waiting\n",
+            ..stopped
+        },
+        Case {
+            sink_fails: &[4],
+            written: b"begin 1 started\nbegin 2 waiting\ncommit 1 done\nstart 2\ncommit 2 done\ndrain 2\n",
+            ..stopped
+        },
+        Case {
+            sink_fails: &[5],
+            ..row
+        },
+    ];
+    for case in cases {
+        assert!(rt; ends_so(&rt, &SCRIPT, case)?);
+    }
+    Ok(())
+}
+
+// What is read and what is written where a shadow with a thousand written items is shown.
+fn long_show(alloc: Global) -> Result<(Vec<u8>, Vec<u8>), AllocError> {
+    let input =
+        b"table abcdefghijklmnop 1024\nbegin 1 { loop 1000 { abcdefghijklmnop[r0] = -9223372036854775808; r0 = r0 + 1; } fail 1; }\nrun\nshow 1\n";
+    let mut written =
+        b"table abcdefghijklmnop 1024\nbegin 1 started\nrun 3002\nshadow 1 o at 3002 ended r0=1000".to_vec(
+            alloc,
+        )?;
+    for item in 0..1000u64 {
+        written.extend_from_slice(b" abcdefghijklmnop[")?;
+        put_count(&mut written, item)?;
+        written.extend_from_slice(b"]=-9223372036854775808")?;
+    }
+    written.extend_from_slice(b"\nfinal abcdefghijklmnop")?;
+    for _ in 0..1024 {
+        written.extend_from_slice(b" 0")?;
+    }
+    written.extend_from_slice(b"\nend 0\n")?;
+    Ok((input.to_vec(alloc)?, written))
+}
+
+#[test]
+fn a_shown_line_may_be_long(rt: HostRuntime) -> Result<(), Fail> {
+    let (input, written) = long_show(rt.alloc())?;
+    assert!(rt; written.len() > 40_000);
+    assert!(rt; gives(&rt, &SCRIPT, &input, &written)?);
     Ok(())
 }
 
