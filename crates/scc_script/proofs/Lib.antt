@@ -1,12 +1,13 @@
 pub mod Commits
 pub mod Draining
+pub mod Endings
 pub mod FinalLines
-pub mod Items
-pub mod Refused
 pub mod ItemNames
+pub mod Items
 pub mod Lists
 pub mod Long
 pub mod Openings
+pub mod Refused
 pub mod Registers
 pub mod Settings
 pub mod Sound

@@ -1,5 +1,6 @@
 -- How a script ended, and what was written by then.
 use Rattle.std.specs.Prelude.{◌≡◌, ℕ, List, Option}
+use Rattle.scc_text.specs.declared.command.Dialect.TheVariants as dialect
 use Rattle.line_loop.specs.Meaning.{Ran}
 use Rattle.line_loop.specs.declared.ending.Ending.{Ending}
 use Rattle.line_loop.specs.declared.ending.Ending.TheVariants as ending
@@ -19,4 +20,4 @@ status_of ending.InputLimit = status.InputLimit
 pub record ScriptRan (k lanes : ℕ) (answer : Status) (read : List ℕ) (left_old left_new written_old written_new : Option (List ℕ)) (steps_old steps_new : ℕ) : Type 0 where
   pub ending : Ending
   pub status : answer ≡ status_of ending
-  pub ran : Ran meaning (opening_script k lanes) ending read left_old left_new written_old written_new steps_old steps_new
+  pub ran : Ran (meaning dialect.Script) (opening_script k lanes) ending read left_old left_new written_old written_new steps_old steps_new

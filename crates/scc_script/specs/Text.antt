@@ -2,7 +2,7 @@
 -- names, of the forest in numbers and of runs alone.
 use Rattle.std.specs.Prelude.{ℕ, ◌+◌, nat_lt, Bool, true, false, if◌then◌else◌, List, [], ◌∷◌, ◌++◌, length, slice_range, Option, Some, None, Result, Ok, Err, bytes_eq, codes}
 use Rattle.line_loop.specs.Meaning.{Meaning}
-use Rattle.scc_text.specs.declared.command.Dialect.TheVariants as dialect
+use Rattle.scc_text.specs.declared.command.Dialect.{Dialect}
 use Rattle.scc_text.specs.declared.command.Command.{Command}
 use Rattle.scc_text.specs.declared.command.Command.TheVariants.{Blank, Table, Put, Begin, Step, Run, Commit, Withdraw, Show, Dump, Seal, Drain}
 use Rattle.scc_text.specs.Command.{command_of, program_bytes}
@@ -212,9 +212,9 @@ abbrev pub is_unbuilt : List Word → Bool
 is_unbuilt [] = false
 is_unbuilt (word ∷ words) = bytes_eq word.text (codes "journal")
 
--- the command that a line spells, or the refusal 12, 13 or 17
-abbrev pub spelled : List ℕ → Result Command ℕ
-spelled line = if is_unbuilt (words_of line) then Err 12 else command_of dialect.Script line
+-- the command of a dialect that a line spells, or the refusal 12, 13 or 17
+abbrev pub spelled : Dialect → List ℕ → Result Command ℕ
+spelled dialect line = if is_unbuilt (words_of line) then Err 12 else command_of dialect line
 
 -- the answer to a command of this line
 abbrev pub command_answer : Script → List ℕ → Command → Answer
@@ -237,19 +237,19 @@ abbrev pub answer_to : Script → List ℕ → Result Command ℕ → Answer
 answer_to s line (Ok command) = command_answer s line command
 answer_to s line (Err code) = refused s code
 
--- the answer to a line
-unfoldable pub answer : Script → List ℕ → Answer
-answer s line = if nat_lt 8192 (length line) then refused s 11 else answer_to s line (spelled line)
+-- the answer to a line of a dialect
+unfoldable pub answer : Dialect → Script → List ℕ → Answer
+answer dialect s line = if nat_lt 8192 (length line) then refused s 11 else answer_to s line (spelled dialect line)
 
 -- the lines at the end of the input
 unfoldable pub end_lines : Script → List ℕ
 end_lines s = final_lines s.forest.tables 0 s.names ++ number_line (codes "end ") (length (commits s.forest.journal))
 
--- the script as a machine that answers lines
-abbrev pub meaning : Meaning Script
-meaning = record {
-  next = λ s line. (answer s line).next;
-  reply = λ s line. (answer s line).reply;
-  ticks = λ s line. (answer s line).ticks;
+-- the script as a machine that answers lines of a dialect
+abbrev pub meaning : Dialect → Meaning Script
+meaning dialect = record {
+  next = λ s line. (answer dialect s line).next;
+  reply = λ s line. (answer dialect s line).reply;
+  ticks = λ s line. (answer dialect s line).ticks;
   ending = λ s. end_lines s;
 }

@@ -5,6 +5,7 @@ ghost use Rattle.txn_names.specs.Tables.{items_of};
 ghost use Rattle.txn_syntax.specs.Reads.{read_of};
 ghost use Rattle.journal_core.specs.Journal.{commits};
 ghost use Rattle.forest_model.specs.Events.{begin as begin_of};
+ghost use Rattle.scc_text.specs.declared.command.Dialect.TheVariants as dialects;
 ghost use Rattle.scc_text.specs.Command.{IsInRange};
 ghost use Rattle.scc_text.specs.Words.{words_of};
 ghost use Rattle.shadow_forest.specs.View.{opened_view};
@@ -76,21 +77,22 @@ impl ScriptState {
         })
     }
 
-    /// Answers a line: the reply is appended, and each step ticks.
+    /// Answers a line of a dialect: the reply is appended, and each step ticks.
     #[tactic(auto, unfolding(crate::specs::Text::answer))]
     pub fn answer_line<L: Ledger>(
         &mut self,
+        dialect: Dialect,
         line: &[u8],
         out: &mut Vec<u8>,
         steps: &mut Steps<L>,
     ) -> Result<(), AllocError>
         requires { length line.now ≤ 8192 }
-        ensures next { OnOk result (self.new ≡ (spec.answer self.old line.now).next) }
-        ensures reply { OnOk result (out.new.items ≡ out.old.items ++ (spec.answer self.old line.now).reply) }
-        ensures ticks { OnOk result (steps.new ≡ steps.old + (spec.answer self.old line.now).ticks) }
-        ensures most { (steps.old ≤ steps.new) × (steps.new ≤ steps.old + (spec.answer self.old line.now).ticks) }
+        ensures next { OnOk result (self.new ≡ (spec.answer dialect self.old line.now).next) }
+        ensures reply { OnOk result (out.new.items ≡ out.old.items ++ (spec.answer dialect self.old line.now).reply) }
+        ensures ticks { OnOk result (steps.new ≡ steps.old + (spec.answer dialect self.old line.now).ticks) }
+        ensures most { (steps.old ≤ steps.new) × (steps.new ≤ steps.old + (spec.answer dialect self.old line.now).ticks) }
     {
-        match read_line(line) {
+        match read_line(dialect, line) {
             Ok(command) => self.answer_command(line, command, out, steps),
             Err(code) => put_refusal(out, code),
         }
@@ -312,16 +314,16 @@ impl ScriptState {
     }
 }
 
-// The command that a line spells; `journal` is none of a script yet.
-fn read_line(line: &[u8]) -> Result<Command, u8>
+// The command of a dialect that a line spells; `journal` is none yet.
+fn read_line(dialect: Dialect, line: &[u8]) -> Result<Command, u8>
     requires { length line.now ≤ 8192 }
-    ensures command { result ≡ spelled line.now }
+    ensures command { result ≡ spelled dialect line.now }
     ensures ranges { IfOk result (IsInRange (length line.now)) }
 {
     if is_unbuilt(line) {
         return Err(12);
     }
-    read_command(Dialect::Script, line)
+    read_command(dialect, line)
 }
 
 fn is_unbuilt(line: &[u8]) -> bool
@@ -381,11 +383,11 @@ fn put_finals(names: &Names, tables: &Table, out: &mut Vec<u8>) -> Result<(), Al
 }
 
 impl Machine for ScriptState {
-    ghost next = { λ s line. (spec.answer s line).next };
+    ghost next = { λ s line. (spec.answer dialects.Script s line).next };
 
-    ghost reply = { λ s line. (spec.answer s line).reply };
+    ghost reply = { λ s line. (spec.answer dialects.Script s line).reply };
 
-    ghost ticks = { λ s line. (spec.answer s line).ticks };
+    ghost ticks = { λ s line. (spec.answer dialects.Script s line).ticks };
 
     ghost ending = { λ s. end_lines s };
 
@@ -395,7 +397,7 @@ impl Machine for ScriptState {
         out: &mut Vec<u8>,
         steps: &mut Steps<L>,
     ) -> Result<(), AllocError> {
-        self.answer_line(line, out, steps)
+        self.answer_line(Dialect::Script, line, out, steps)
     }
 
     #[tactic(auto, using(crate::proofs::Long::too_long))]
