@@ -2,7 +2,7 @@
 ghost use Rattle.std.specs.Prelude.{◌≡◌, codes};
 
 use crate::{Ending, Machine, answer_lines};
-use scc_ports::{MemSink, MemSource, Sink, Source};
+use scc_ports::{Failed, MemSink, MemSource, Sink, Source};
 use std::alloc::{AllocError, Global};
 use std::marker::Brand;
 use std::sync::ledger::{Blank, Ledger};
@@ -57,7 +57,19 @@ fn ending_over<L: Ledger, S: Source, K: Sink>(
     answer_lines(alloc, &mut Nodding, source, sink, &mut steps)
 }
 
-// The same over memory, with what was written.
+// The same, with what was written.
+fn written_over<S: Source>(
+    alloc: Global,
+    source: &mut S,
+    most: usize,
+    sink_fails: &[u32],
+) -> Result<(Ending, Vec<u8>), AllocError> {
+    let mut sink = MemSink::with_room(alloc, 1_000, most.max(1), sink_fails.to_vec(alloc)?)?;
+    let ending = ending_over::<Brand, _, _>(Blank::new(1), alloc, source, &mut sink);
+    Ok((ending, sink.into_bytes()))
+}
+
+// The same over bytes in memory.
 fn run_over(
     alloc: Global,
     input: &[u8],
@@ -65,11 +77,12 @@ fn run_over(
     source_fails: &[u32],
     sink_fails: &[u32],
 ) -> Result<(Ending, Vec<u8>), AllocError> {
-    let most = most.max(1);
-    let mut source = MemSource::new(input.to_vec(alloc)?, most, source_fails.to_vec(alloc)?);
-    let mut sink = MemSink::with_room(alloc, 1_000, most, sink_fails.to_vec(alloc)?)?;
-    let ending = ending_over::<Brand, _, _>(Blank::new(1), alloc, &mut source, &mut sink);
-    Ok((ending, sink.into_bytes()))
+    let mut source = MemSource::new(
+        input.to_vec(alloc)?,
+        most.max(1),
+        source_fails.to_vec(alloc)?,
+    );
+    written_over(alloc, &mut source, most, sink_fails)
 }
 
 #[test]
@@ -91,5 +104,40 @@ fn each_end_writes_what_it_says(rt: HostRuntime) -> Result<(), Fail> {
     let (ending, written) = run_over(alloc, long.as_slice(), 100, &[], &[])?;
     assert_eq!(rt; ending, Ending::Done);
     assert_eq!(rt; written.as_slice(), b"ok\nend\n".as_slice());
+    Ok(())
+}
+
+// The bytes before those without an end.
+const FRONT: &[u8] = b"a\n";
+
+// These bytes one by one, and then zero bytes without an end.
+#[derive(Drop)]
+struct Endless {
+    given: usize,
+}
+
+impl Source for Endless {
+    ghost use Rattle.std.specs.Prelude.{None};
+
+    ghost left = { λ _. None };
+
+    ghost faults = { λ _. 0 };
+
+    fn read(&mut self, into: &mut [u8]) -> Result<usize, Failed> {
+        if self.given < FRONT.len() {
+            into[0] = FRONT[self.given];
+            self.given += 1;
+            return Ok(1);
+        }
+        into.fill(0);
+        Ok(into.len())
+    }
+}
+
+#[test]
+fn the_limit_ends_a_run_behind_the_whole_lines(rt: HostRuntime) -> Result<(), Fail> {
+    let (ending, written) = written_over(rt.alloc(), &mut Endless { given: 0 }, 1_000, &[])?;
+    assert_eq!(rt; ending, Ending::InputLimit);
+    assert_eq!(rt; written.as_slice(), b"ok\n".as_slice());
     Ok(())
 }
