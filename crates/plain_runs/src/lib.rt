@@ -1,7 +1,6 @@
 //! The plain slow run of a program: it does what the definition says, statement by statement, from the start.
 #![tactic(auto)]
 
-mod items;
 mod left;
 mod run;
 

@@ -6,7 +6,6 @@ ghost use Rattle.txn_runs.specs.Run.{start, register, value_of, item_at, own, lo
 ghost use Rattle.txn_runs.specs.Serial.{has_ended};
 ghost use Rattle.plain_runs.specs.Left.{as_stmt};
 
-use crate::items::item_at;
 use crate::left::{Left, Rest};
 use item_table::Table;
 use std::alloc::{AllocError, Global};
@@ -170,7 +169,7 @@ impl<'a> PlainRun<'a> {
     ) -> Result<(), AllocError>
         ensures { OnOk result (self.new ≡ or_fault (item_at from (value_of self.old at)) self.old (read table.now n to self.old)) }
     {
-        match item_at(from, self.value(at)) {
+        match txn_runs::item_at(from, self.value(at)) {
             Ok(item) => self.fetch(table, n, to, item),
             Err(kind) => {
                 self.fault(kind);
@@ -200,7 +199,7 @@ impl<'a> PlainRun<'a> {
         ensures { self.new ≡ or_fault (item_at table (value_of self.old at)) self.old (write (value_of self.old from) self.old) }
     {
         let value = self.value(from);
-        match item_at(table, self.value(at)) {
+        match txn_runs::item_at(table, self.value(at)) {
             Ok(item) => self.set(item, value),
             Err(kind) => self.fault(kind),
         }

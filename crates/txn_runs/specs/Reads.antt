@@ -2,10 +2,14 @@
 use Rattle.std.specs.Prelude.{◌≡◌, ℕ, ◌<◌, false, nat_eq, List, [], ◌∷◌, Some, slice_get}
 use Rattle.txn_runs.specs.Run.{Tables, Read, stored}
 
--- a read may stand before these: their positions are greater, and none is of its item
+-- a later read's position against the one before
+abbrev pub IsPast : ℕ → ℕ → Type 0
+IsPast before position = before < position
+
+-- a read may stand before these: their positions are past its own, and none is of its item
 abbrev pub IsFirst : Read → List Read → Type 0
 IsFirst r [] = Unit {0}
-IsFirst r (q ∷ reads) = (r.0 < q.0) × (nat_eq r.1 q.1 ≡ false) × IsFirst r reads
+IsFirst r (q ∷ reads) = IsPast r.0 q.0 × (nat_eq r.1 q.1 ≡ false) × IsFirst r reads
 
 -- each item once, positions ascending
 abbrev pub IsLog : List Read → Type 0

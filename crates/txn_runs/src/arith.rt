@@ -4,7 +4,10 @@ ghost use Rattle.txn_runs.specs.Value.{calc, holds};
 use crate::outcome::FaultKind;
 use crate::program::{Cmp, Op};
 
-/// An exact result, or why there is none.
+/// The exact result of a calculation.
+///
+/// # Errors
+/// `FaultKind::Zero` where the divisor of `Div` or `Rem` is 0, and `FaultKind::Overflow` where the result isn't a number of 64 bits.
 pub fn calc(op: Op, a: i64, b: i64) -> Result<i64, FaultKind>
     ensures { result ≡ calc op a b }
 {
