@@ -1,8 +1,9 @@
 // Laws of the nodes of a program.
 
-ghost use Rattle.std.specs.Prelude.{◌≡◌, ◌≢◌, ℕ, List, []};
+ghost use Rattle.std.specs.Prelude.{◌≡◌, ◌≢◌, ℕ, ◌+◌, List, [], length};
 ghost use Rattle.txn_runs.specs.declared.outcome.End.TheVariants.{Going};
 ghost use Rattle.txn_runs.specs.declared.program.Stmt.{Stmt};
+ghost use Rattle.txn_runs.specs.Bounds.{size};
 ghost use Rattle.txn_runs.specs.Run.{Tables, Running};
 ghost use Rattle.txn_code.specs.declared.node.Node.{Node};
 ghost use Rattle.txn_code.specs.Flow.{Stands};
@@ -17,7 +18,8 @@ pub fn node_steps()
     ensures ends { (nodes : List Node) (at : ℕ) (counters : List ℕ) → Stands nodes at counters [] → IsEnd nodes at }
 {}
 
-/// Programs with the same nodes are the same.
+/// Programs with the same nodes are the same, and a program has a node for each of its statements, and one for the end.
 pub fn same_nodes()
-    ensures { (a b : List Stmt) → nodes_of a ≡ nodes_of b → a ≡ b }
+    ensures long { (body : List Stmt) → length (nodes_of body) ≡ size body + 1 }
+    ensures same { (a b : List Stmt) → nodes_of a ≡ nodes_of b → a ≡ b }
 {}
