@@ -2,7 +2,6 @@
 #![tactic(auto)]
 
 mod counters;
-mod items;
 mod laws;
 mod state;
 

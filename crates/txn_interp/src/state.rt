@@ -1,16 +1,15 @@
-ghost use Rattle.std.specs.Prelude.{◌≡◌, ◌≢◌, ℕ, ◌+◌, ◌<◌, ◌≤◌, ◌^◌, ℤ, List, Option, [], ◌∷◌, ◌++◌, nat_eq, slice_set, length, replicate, pos, None, IfOk, IsTrue, ◌↔◌, slice_index_or};
-ghost use Rattle.txn_runs.specs.declared.outcome.End.TheVariants.{Going};
+ghost use Rattle.std.specs.Prelude.{◌≡◌, ◌≢◌, ℕ, ◌+◌, ◌<◌, ◌≤◌, ◌^◌, ℤ, List, Option, [], ◌∷◌, ◌++◌, nat_eq, slice_set, length, replicate, pos, None, IfOk, IsTrue, ◌↔◌, slice_index_or, if◌then◌else◌};
+ghost use Rattle.txn_runs.specs.declared.outcome.End.TheVariants.{Going, Failed};
 ghost use Rattle.txn_interp.specs.State.{is_finish};
 
 use crate::counters::Counters;
-use crate::items::item_at;
 use access_sets::{ReadLog, WriteSet};
 use std::alloc::{AllocError, Global};
 use std::marker::Model;
 use std::sync::ledger::Ledger;
 use step_count::Steps;
 use txn_code::{Act, Code, Node};
-use txn_runs::{Emits, End, Kind, Op, Operand, Outcome, TableRef};
+use txn_runs::{Cmp, Emits, End, Kind, Op, Operand, Outcome, TableRef, item_at};
 
 /// An execution of a program, which can be copied.
 #[derive(Drop)]
@@ -43,10 +42,14 @@ impl State {
     ghost use Rattle.txn_runs.specs.Reads.{AreBefore};
     ghost use Rattle.txn_interp.specs.Advance.{operand, moved, settle, put_in, fetch_in, turn_by, advance};
     ghost use Rattle.txn_runs.specs.Run.{Tables, register, item_at, own, logged};
-    ghost use Rattle.txn_runs.specs.Value.{calc};
+    ghost use Rattle.txn_runs.specs.Value.{calc, holds};
     ghost use Rattle.txn_runs.specs.Bounds.{after_register};
 
-    /// Room for a run over this many items: the run of the empty program, which has ended.
+    /// Room for a run over this many items, at most 1,024: the run of the empty program, which has ended. No later call takes
+    /// memory.
+    ///
+    /// # Errors
+    /// Where memory runs out.
     pub fn room(alloc: Global, items: u32) -> Result<State, AllocError>
         requires { items ≤ 1024 }
         ensures room { IfOk result (λ s. s.log.room ≡ items) }
@@ -68,20 +71,24 @@ impl State {
         })
     }
 
+    /// How many steps are made, at most 100,000.
     pub fn position(&self) -> u32
         ensures { result ≡ self.now.position }
     {
         self.position
     }
 
+    /// The table reads so far: position, item and value. A read of what the run has written or read before is none.
     pub fn reads(&self) -> &ReadLog
         ensures { result.now ≡ self.now.log }
     {
         &self.reads
     }
 
+    /// What the run has written so far: of each item the last value. They have the same room as the reads.
     pub fn writes(&self) -> &WriteSet
-        ensures { result.now ≡ self.now.writes }
+        ensures set { result.now ≡ self.now.writes }
+        ensures same { length self.now.writes ≡ self.now.log.room }
     {
         &self.writes
     }
@@ -94,6 +101,7 @@ impl State {
         &self.emits
     }
 
+    /// The value of a register, by its number from 0 to 15.
     pub fn reg(&self, n: u8) -> i64
         requires { n < 16 }
         ensures { result ≡ slice_index_or self.now.registers n (pos 0) }
@@ -144,11 +152,43 @@ impl State {
         }
     }
 
-    fn emit(&mut self, value: i64)
-        requires { length self.old.emits < 64 }
-        ensures { self.new ≡ record self.old { emits = self.old.emits ++ value ∷ [] } }
+    fn assign(&mut self, to: u8, from: Operand)
+        requires to { to < 16 }
+        requires from { after_register from ≤ 16 }
+        ensures { self.new ≡ put_in to (operand self.old from) self.old }
     {
+        let value = self.operand(from);
+        self.put(to, value);
+    }
+
+    fn emit(&mut self, from: Operand)
+        requires room { length self.old.emits < 64 }
+        requires from { after_register from ≤ 16 }
+        ensures { self.new ≡ record self.old { emits = self.old.emits ++ operand self.old from ∷ [] } }
+    {
+        let value = self.operand(from);
         self.emits.push(value);
+    }
+
+    fn fail_with(&mut self, code: Operand)
+        requires { after_register code ≤ 16 }
+        ensures { self.new ≡ record self.old { end = Failed (operand self.old code) } }
+    {
+        let code = self.operand(code);
+        self.fail(End::Failed { code });
+    }
+
+    fn test(&mut self, left: Operand, cmp: Cmp, right: Operand, next: u32, other: u32)
+        requires position { self.old.position < 100000 }
+        requires left { after_register left ≤ 16 }
+        requires right { after_register right ≤ 16 }
+        ensures { self.new ≡ moved (if holds cmp (operand self.old left) (operand self.old right) then next else other) self.old }
+    {
+        if txn_runs::holds(cmp, self.operand(left), self.operand(right)) {
+            self.move_to(next);
+        } else {
+            self.move_to(other);
+        }
     }
 
     fn write(&mut self, table: TableRef, at: Operand, from: Operand)
@@ -160,7 +200,7 @@ impl State {
     {
         let value = self.operand(from);
         match item_at(table, self.operand(at)) {
-            Ok(item) => self.writes.set(item, value),
+            Ok(item) => self.writes.set(item as u32, value),
             Err(kind) => self.fail(End::Fault { kind }),
         }
     }
@@ -174,7 +214,7 @@ impl State {
         ensures { self.new ≡ settle (item_at table (operand self.old at)) self.old (λ item. fetch_in (own self.old.writes item) (logged self.old.log.reads item) value position to item self.old) }
     {
         match item_at(table, self.operand(at)) {
-            Ok(item) => self.fetch(to, item, position, value),
+            Ok(item) => self.fetch(to, item as u32, position, value),
             Err(kind) => self.fail(End::Fault { kind }),
         }
     }
@@ -238,8 +278,7 @@ impl State {
             }
             Act::Move { to, from } => {
                 self.move_to(node.next);
-                let moved = self.operand(from);
-                self.put(to, moved)
+                self.assign(to, from)
             }
             Act::Read { to, table, at } => {
                 self.move_to(node.next);
@@ -249,23 +288,15 @@ impl State {
                 self.move_to(node.next);
                 self.write(table, at, from)
             }
-            Act::Test { left, cmp, right } => {
-                if txn_runs::holds(cmp, self.operand(left), self.operand(right)) {
-                    self.move_to(node.next)
-                } else {
-                    self.move_to(node.other)
-                }
-            }
+            Act::Test { left, cmp, right } => self.test(left, cmp, right, node.next, node.other),
             Act::Turn { count, depth } => self.turn(count, depth, node.next, node.other),
             Act::Emit { from } => {
                 self.move_to(node.next);
-                let value = self.operand(from);
-                self.emit(value)
+                self.emit(from)
             }
             Act::Fail { code } => {
                 self.move_to(node.next);
-                let code = self.operand(code);
-                self.fail(End::Failed { code })
+                self.fail_with(code)
             }
             Act::End => {}
         }
@@ -287,6 +318,7 @@ impl State {
         match act {
             Act::Read { table, at, .. } => match item_at(table, self.operand(at)) {
                 Ok(item) => {
+                    let item = item as u32;
                     if self.writes.get(item).is_some() || self.reads.get(item).is_some() {
                         Kind::Local
                     } else {
@@ -297,7 +329,7 @@ impl State {
             },
             Act::Write { table, at, from } => match item_at(table, self.operand(at)) {
                 Ok(item) => Kind::Write {
-                    item,
+                    item: item as u32,
                     value: self.operand(from),
                 },
                 Err(_) => Kind::Local,
@@ -402,7 +434,7 @@ impl State {
         self.step(code, 0);
     }
 
-    /// The state before the first step of the code's program.
+    /// Becomes the state before the first step of the code's program. The room stays.
     pub fn reset(&mut self, code: &Code)
         requires { Carries code.now.nodes self.old.log.room }
         ensures fresh { self.new ≡ fresh_state code.now.nodes self.old.log.room }
@@ -428,7 +460,7 @@ impl State {
         self.end = End::Going;
     }
 
-    /// Becomes the other state.
+    /// Becomes the other state, in time that grows with its reads, writes and emits, and not with the room.
     pub fn copy_from(&mut self, other: &State)
         requires { self.old.log.room ≡ other.now.log.room }
         ensures { self.new ≡ other.now }
