@@ -22,7 +22,10 @@ pub struct Walk {
     pub end: End,
 }
 
-/// Walks a program over these tables, for at most so many steps.
+/// Walks a program over these tables, which it leaves as they are, for at most so many steps.
+///
+/// # Errors
+/// Where memory runs out.
 pub fn walk_program(
     alloc: Global,
     program: &Program,
