@@ -1,4 +1,4 @@
-use crate::{ReadLog, WriteSet};
+use crate::{ReadLog, WriteSet, agreeing_tables};
 use item_table::Table;
 use std::test::Fail;
 
@@ -10,6 +10,9 @@ fn writes_are_a_map_in_ascending_order(rt: HostRuntime) -> Result<(), Fail> {
     writes.set(5, 51);
     assert_eq!(rt; writes.get(5), Some(51));
     assert_eq!(rt; writes.get(3), None);
+    assert_eq!(rt; writes.len(), 2);
+    assert_eq!(rt; writes.nth(0), (2, 20));
+    assert_eq!(rt; writes.nth(1), (5, 51));
     let mut other = WriteSet::with_room(rt.alloc(), 8)?;
     other.copy_from(&writes);
     assert_eq!(rt; other.get(2), Some(20));
@@ -29,6 +32,8 @@ fn a_log_keeps_what_was_read(rt: HostRuntime) -> Result<(), Fail> {
     log.note(7, 2, 20);
     assert_eq!(rt; log.len(), 2);
     assert_eq!(rt; log.get(2), Some(20));
+    assert_eq!(rt; log.nth(0), (3, 5, 50));
+    assert_eq!(rt; log.nth(1), (7, 2, 20));
     let mut writes = WriteSet::with_room(rt.alloc(), 8)?;
     assert_eq!(rt; log.first_in(&writes), None);
     writes.set(2, 1);
@@ -38,5 +43,23 @@ fn a_log_keeps_what_was_read(rt: HostRuntime) -> Result<(), Fail> {
     assert!(rt; other.same(&log));
     other.clear();
     assert!(rt; !other.same(&log));
+    Ok(())
+}
+
+#[test]
+fn a_log_agrees_with_tables_that_have_what_was_read(rt: HostRuntime) -> Result<(), Fail> {
+    agreeing_tables();
+    let mut log = ReadLog::with_room(rt.alloc(), 8)?;
+    log.note(3, 5, 50);
+    log.note(7, 2, 20);
+    let mut table = Table::new(rt.alloc(), 8)?;
+    table.set(5, 50);
+    assert!(rt; !log.agrees(&table));
+    table.set(2, 20);
+    assert!(rt; log.agrees(&table));
+    table.set(2, 21);
+    assert!(rt; !log.agrees(&table));
+    table.set(2, 19);
+    assert!(rt; !log.agrees(&table));
     Ok(())
 }
