@@ -1,7 +1,8 @@
 -- How one more entry changes the standing of transactions.
-use Rattle.std.proofs.Common.{◌≡◌, ◌≢◌, ℕ, suc, ◌+◌, ◌-◌, ◌≤◌, ◌<◌, ◌==◌, Bool, true, false, ◌||◌, List, [], ◌∷◌, ◌++◌, length, Option, Some, None, refl, sym, ap, ◌∙◌, subst, arith, get_or, eq-eqb, length-append, append-nil}
-use Rattle.std.specs.Prelude.{slice_get, option_and_then}
-use Rattle.std.specs.List.{cons_option, filter_map}
+use Rattle.std.proofs.Common.{◌≡◌, ◌≢◌, ℕ, suc, ◌+◌, ◌-◌, ◌≤◌, ◌<◌, ◌==◌, Bool, true, false, ◌||◌, List, [], ◌∷◌, ◌++◌, length, Option, Some, None, refl, sym, ap, ◌∙◌, subst, arith, get_or, eq-eqb, length-append, append-nil, ◌↔◌}
+use Rattle.std.specs.Prelude.{slice_get, option_and_then, option_copied}
+use Rattle.std.specs.Borrow.{Bor}
+use Rattle.std.specs.List.{cons_option, filter_map, AllByRecursion}
 use Rattle.std.proofs.Math.ListN.{set}
 use Rattle.std.proofs.Math.Seq.{get_or-append_seam}
 use Rattle.std.proofs.lemmas.Option.{slice_get-get_or}
@@ -43,6 +44,24 @@ silent (Committed txn outcome) t o h =
     (λ here. let no : Some outcome ≡ None = rw here at h in cc)
     (λ other. (other, rw other at h))
 silent (Withdrawn txn) t o h = (refl, h)
+
+-- it was committed nowhere exactly where no entry commits it
+pub uncommitted : (journal : List Entry) (t : ℕ) → (committed_of journal t ≡ None) ↔ AllByRecursion (λ (e : Entry). is_commit_of t e ≡ false) journal
+uncommitted [] t = ((λ h. tt), λ h. refl)
+uncommitted (x ∷ journal) t =
+    let later = uncommitted journal t in (
+      (λ h. let parts = silent x t (committed_of journal t) h in (parts.0, later.0 parts.1)),
+      λ h. committed_in-other x t (committed_of journal t) h.0 ∙ later.1 h.1,
+    )
+
+-- so an answer that tells the outcome is none exactly there
+pub none-uncommitted : (answer : Option (Bor Outcome)) (journal : List Entry) (t : ℕ) → option_copied answer ≡ committed_of journal t
+    → (answer ≡ None) ↔ AllByRecursion (λ (e : Entry). is_commit_of t e ≡ false) journal
+none-uncommitted None journal t h = ((λ e. (uncommitted journal t).0 (sym h)), λ all. refl)
+none-uncommitted (Some outcome) journal t h = (
+  (λ e. cc),
+  λ all. let no : Some outcome.now ≡ None = h ∙ (uncommitted journal t).1 all in cc,
+)
 
 pub committed-new : (journal : List Entry) (t : ℕ) (outcome : Outcome) → committed_of journal t ≡ None → committed_of (journal ++ Committed t outcome ∷ []) t ≡ Some outcome
 committed-new [] t outcome h = rw (eq-eqb t t refl) refl

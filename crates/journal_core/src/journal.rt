@@ -1,5 +1,6 @@
-ghost use Rattle.std.specs.Prelude.{◌≡◌, ◌+◌, ◌≤◌, ◌<◌, true, ◌∷◌, ◌++◌, [], length, slice_get, option_copied, MatchOption, OnOk, OnErr};
-ghost use Rattle.journal_core.specs.Journal.{began, reply_in as reply_of, commits, is_sealed, is_live, is_withdrawn, committed_of, Continues, IsLegal};
+ghost use Rattle.std.specs.Prelude.{◌≡◌, ◌↔◌, ◌+◌, ◌≤◌, ◌<◌, false, None, ◌∷◌, ◌++◌, [], length, slice_get, option_copied, MatchOption, OnOk};
+ghost use Rattle.std.specs.List.{AllByRecursion};
+ghost use Rattle.journal_core.specs.Journal.{began, reply_in as reply_of, commits, is_sealed, is_live, is_withdrawn, is_commit_of, committed_of, Continues, IsLegal};
 
 use crate::entry::Entry;
 use crate::life::Life;
@@ -62,7 +63,8 @@ impl Journal {
         self.spare
     }
 
-    /// Makes room for at least so many more entries.
+    /// Makes room for at least so many more entries. After want of memory the entries are as before. A journal has at most
+    /// 4,294,967,295 entries; room for more is answered as want of memory.
     pub fn reserve(&mut self, more: u32) -> Result<(), AllocError>
         ensures opening { self.new.opening ≡ self.old.opening }
         ensures entries { self.new.entries ≡ self.old.entries }
@@ -111,6 +113,7 @@ impl Journal {
         self.entries.len() as u32
     }
 
+    /// The entry at a place, from 0.
     pub fn entry(&self, place: u32) -> &Entry
         requires { place < length self.now.entries }
         ensures { slice_get self.now.entries place ≡ Some result.now }
@@ -150,7 +153,8 @@ impl Journal {
         Some(lives[txn as usize - 1])
     }
 
-    /// Whether a transaction began and was neither committed nor withdrawn.
+    /// Whether a transaction began and was neither committed nor withdrawn. Takes the same time in a long journal, as the two
+    /// calls below do.
     pub fn live(&self, txn: u32) -> bool
         ensures { result ≡ is_live self.now.entries txn }
     {
@@ -164,9 +168,10 @@ impl Journal {
         matches!(self.life(txn), Some(Life::Withdrawn))
     }
 
-    /// The outcome that a transaction was committed with, if it was.
+    /// The outcome that a transaction was committed with. `None` exactly where no entry commits it.
     pub fn outcome_of(&self, txn: u32) -> Option<&Outcome>
-        ensures { option_copied result ≡ committed_of self.now.entries txn }
+        ensures value { option_copied result ≡ committed_of self.now.entries txn }
+        ensures none { (result ≡ None) ↔ AllByRecursion (λ e. is_commit_of txn e ≡ false) self.now.entries }
     {
         match self.life(txn) {
             Some(Life::Committed { place }) => reply_in(&self.entries[place as usize]),

@@ -1,17 +1,30 @@
-ghost use Rattle.std.specs.Prelude.{◌≡◌, [], ◌∷◌, ◌++◌, ◌≤◌, OnOk};
+ghost use Rattle.std.specs.Prelude.{◌≡◌, [], ◌∷◌, pos, IfOk};
+ghost use Rattle.txn_runs.specs.declared.program.Operand.TheVariants.{Lit};
+ghost use Rattle.txn_runs.specs.declared.program.Stmt.TheVariants.{Fail as FailOf};
 
 use crate::{Entry, Journal, put_reply};
 use item_table::Table;
 use sqlite_items::Items;
 use std::alloc::{AllocError, Global};
 use std::test::Fail;
-use txn_runs::{Block, Emits, FaultKind, Outcome, Program};
+use txn_runs::{Block, Emits, FaultKind, Operand, Outcome, Program, Stmt};
 
 // The program that does nothing.
 fn nothing(alloc: Global) -> Program
     ensures { result ≡ [] }
 {
     Program::new(Block::new(Items::new(alloc)))
+}
+
+// The program `{ fail 7; }`.
+fn failing(alloc: Global) -> Result<Program, AllocError>
+    ensures { IfOk result (λ program. program ≡ FailOf (Lit (pos 7)) ∷ []) }
+{
+    let mut stmts = Vec::new(alloc);
+    stmts.push(Stmt::Fail {
+        code: Operand::Lit(7),
+    })?;
+    Ok(Program::new(Block::new(Items::from_vec(stmts))))
 }
 
 #[test]
@@ -47,8 +60,33 @@ fn tells_what_was_recorded(rt: HostRuntime) -> Result<(), Fail> {
     assert_eq!(rt; journal.began(), 2);
     assert_eq!(rt; journal.commits(), 1);
     assert_eq!(rt; journal.len(), 5);
+    assert_eq!(rt; journal.spare(), 0);
     assert!(rt; matches!(journal.entry(3), Entry::Withdrawn { txn: 2 }));
     assert_eq!(rt; journal.opening().len(), 2);
+    Ok(())
+}
+
+#[test]
+fn a_commit_may_follow_the_seal(rt: HostRuntime) -> Result<(), Fail> {
+    let mut journal = Journal::new(rt.alloc(), Table::new(rt.alloc(), 2)?);
+    journal.reserve(4)?;
+    journal.push_reserved(Entry::Began {
+        txn: 1,
+        deadline: 10,
+        program: failing(rt.alloc())?,
+    });
+    journal.push_reserved(Entry::Sealed);
+    assert!(rt; journal.live(1) && journal.outcome_of(1).is_none());
+    journal.push_reserved(Entry::Committed {
+        txn: 1,
+        outcome: Outcome::Failed { code: 7 },
+    });
+    assert!(rt; !journal.live(1) && journal.sealed());
+    assert!(rt; matches!(journal.outcome_of(1), Some(Outcome::Failed { code: 7 })));
+    // nobody has the number 0
+    assert!(rt; !journal.live(0) && !journal.withdrawn(0) && journal.outcome_of(0).is_none());
+    assert_eq!(rt; journal.commits(), 1);
+    assert_eq!(rt; journal.spare(), 1);
     Ok(())
 }
 
