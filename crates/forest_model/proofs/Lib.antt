@@ -9,6 +9,7 @@ pub mod PointLaws
 pub mod CommitLaws
 pub mod GiveLaws
 pub mod RestLaws
+pub mod OrderLaws
 pub mod ResetLaws
 pub mod WorldLaws
 pub mod WorkLaws

@@ -1,7 +1,8 @@
 // The laws of the definitions. Each function stands for the clauses of its contract, and does nothing.
 
-ghost use Rattle.std.specs.Prelude.{◌≡◌, ◌≢◌, ◌<◌, ◌≤◌, ◌+◌, ◌^◌, ℕ, suc, List, Ok, Some, None, true, false, length, map, IfOk, IfSome, IsTrue, is_ok, is_some, find, nat_le, option_map};
+ghost use Rattle.std.specs.Prelude.{◌≡◌, ◌≢◌, ◌<◌, ◌≤◌, ◌+◌, ◌-◌, ◌^◌, ◌++◌, ℕ, suc, min, List, Option, Ok, Some, None, true, false, length, map, IfOk, IfSome, IsTrue, is_ok, is_some, find, nat_le, option_map};
 ghost use Rattle.std.specs.List.{AllByRecursion, list_any};
+ghost use Rattle.std.specs.List.Sorted.{IsPermutation, IsSortedBy};
 ghost use Rattle.txn_runs.specs.Bounds.{steps_max};
 ghost use Rattle.txn_runs.specs.Run.{Tables};
 ghost use Rattle.txn_runs.specs.Serial.{outcome_of, outcomes, last_tables};
@@ -16,12 +17,13 @@ ghost use Rattle.journal_core.specs.Journal.{is_live, replies, committed_program
 ghost use Rattle.forest_model.specs.Runs.{is_done, is_local};
 ghost use Rattle.forest_model.specs.Forest.{Started, Forest, program, length_of, point_of, wanted, find_started};
 ghost use Rattle.forest_model.specs.Choose.{greatest_up_to};
-ghost use Rattle.forest_model.specs.Settle.{stands_for, positions_in};
-ghost use Rattle.forest_model.specs.Cut.{survivors, heir};
-ghost use Rattle.forest_model.specs.Origin.{is_kept, furthest, position_of, placed, placed_of};
+ghost use Rattle.forest_model.specs.Point.{Conflict, is_sooner, wanted_of};
+ghost use Rattle.forest_model.specs.Settle.{stands_for, positions_in, settled_shadows};
+ghost use Rattle.forest_model.specs.Cut.{survives, survivors, heir, resumed_by, after_cut};
+ghost use Rattle.forest_model.specs.Origin.{is_kept, furthest, origin, successor, position_of, placed, placed_of, AreApart, from_origin, waiting_at};
 ghost use Rattle.forest_model.specs.Pick.{pick};
 ghost use Rattle.forest_model.specs.Sound.{IsSound, IsIdle, IsHome, is_wanted, last_point, LeavesLists, KeepsStarted, KeepsOthers};
-ghost use Rattle.forest_model.specs.Events.{begin, seal, step, commit, withdraw, cut, resumes, others_cut, laid};
+ghost use Rattle.forest_model.specs.Events.{begin, seal, step, commit, withdraw, cut, resumes, others_cut};
 ghost use Rattle.forest_model.specs.Jobs.{Job, is_out_at, moved, take_pick, recall, give};
 ghost use Rattle.forest_model.specs.World.{World, Held, Event, Recall, happens, all_happen, opened, IsHeld, IsFit};
 ghost use Rattle.forest_model.specs.Work.{work};
@@ -131,11 +133,23 @@ pub fn gating()
     ensures sound { (f : Forest) → IsSound f → IsSound (gate_step f).1 }
 {}
 
+/// The wanted of a list of conflicts are its first `k - 1` by point and then by guard, or all where there are fewer: the
+/// wanted and some rest are the same conflicts in that order.
+pub fn wanting()
+    ensures { (xs : List Conflict) (k : ℕ) → (rest : List Conflict) × IsPermutation xs (wanted_of xs k ++ rest) × IsSortedBy is_sooner (wanted_of xs k ++ rest) × (length (wanted_of xs k) ≡ min (k - 1) (length xs)) }
+{}
+
 /// Where the state of a shadow comes from, by roles and positions, is where settling and a cut take it from: what
 /// is kept is what settling finds; a copy stands where the furthest stands that is not past the point; the heir
-/// of a cut is the furthest survivor.
+/// of a cut is the furthest survivor. In a sound forest no two of a transaction's shadows wait for one guard, nor do they
+/// after a cut; so a role names one shadow, and each shadow that settling gives is the one that is kept, the copy or the
+/// fresh one that `origin` tells, and who is resumed by a cut goes on from the shadow that `successor` tells.
 pub fn origins()
     ensures kept { (r : Started) (u p : ℕ) → list_any (is_kept u p) (placed_of r) ≡ is_some (find (stands_for (u, p)) r.shadows) }
     ensures copies { (r : Started) (limit : ℕ) → position_of (furthest (placed_of r) limit) ≡ greatest_up_to limit (positions_in (Some r)) }
     ensures heirs { (r : Started) (cut : ℕ) → nat_le r.position cut ≡ false → furthest (placed_of r) cut ≡ option_map placed (heir (survivors (Some cut) r.shadows)) }
+    ensures apart { (f : Forest) → IsSound f → AllByRecursion (λ r. AreApart r.shadows) f.started }
+    ensures cut_apart { (r : Started) (cut : Option ℕ) → AreApart r.shadows → AreApart (after_cut cut r).shadows }
+    ensures settles { (r : Started) (ws : List Conflict) → AreApart r.shadows → map Some (settled_shadows (Some r) ws) ≡ map (λ (w : Conflict). from_origin (origin (placed_of r) w.0 w.1) r w) ws }
+    ensures resumes { (r : Started) (cut : ℕ) → AreApart r.shadows → survives (Some cut) r.position ≡ false → after_cut (Some cut) r ≡ resumed_by (waiting_at (successor (placed_of r) cut) r.shadows) r (survivors (Some cut) r.shadows) }
 {}

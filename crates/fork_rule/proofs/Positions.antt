@@ -6,9 +6,8 @@ use Rattle.std.proofs.lemmas.Bool.{leb-true, and_parts}
 use Rattle.std.proofs.lemmas.Bool.Decides.{nat_tests}
 use Rattle.block_rule.specs.declared.role.Origin.TheVariants.{Fresh}
 use Rattle.forest_model.specs.Choose.{first_by}
-use Rattle.forest_model.specs.Origin.{Placed, furthest, from_found, successor, waits_for, is_kept}
+use Rattle.forest_model.specs.Origin.{Placed, is_further, furthest, from_found, successor, waits_for, is_kept}
 use Rattle.forest_model.proofs.FirstLaws.{first_with, first_by_more}
-use Rattle.fork_rule.specs.Further.{is_further}
 
 further_order : IsStrictWeakOrder is_further
 further_order = record {

@@ -5,14 +5,14 @@ ghost use Rattle.std.specs.Prelude.{◌≡◌, ◌<◌, ◌↔◌, [], ◌∷◌
 ghost use Rattle.std.specs.List.{AllByRecursion, list_any};
 ghost use Rattle.block_rule.specs.declared.role.Origin.TheVariants.{Fresh};
 ghost use Rattle.forest_model.specs.Choose.{first_by};
-ghost use Rattle.forest_model.specs.Origin.{origin as origin_of, successor, from_found, furthest as furthest_of, is_kept as is_kept_of};
-ghost use Rattle.fork_rule.specs.Further.{is_further as is_further_of};
+ghost use Rattle.forest_model.specs.Origin.{origin as origin_of, successor, from_found, furthest as furthest_of, is_further as is_further_of, is_kept as is_kept_of};
 
 use block_rule::{Origin, Role};
 
 /// Where the shadow of a transaction for a guard and its point comes from, by the roles and positions of the
 /// transaction's shadows in their order: one for that guard that has not passed the point is kept; else it is a copy of
 /// the furthest that has not passed it, and of several the first. `Fresh` exactly where all have passed the point.
+/// `forest_model::origins` says that settling takes the state from there.
 pub fn origin(positions: &[(Role, u32)], guard: u32, point: u32) -> Origin
     ensures origin { result ≡ origin_of positions.now guard point }
     ensures fresh { (result ≡ Fresh) ↔ AllByRecursion (λ x. point < x.1) positions.now }
@@ -25,6 +25,7 @@ pub fn origin(positions: &[(Role, u32)], guard: u32, point: u32) -> Origin
 }
 
 /// A copy of the furthest shadow at or before a position, of several the first. `Fresh` exactly where there is none.
+/// `forest_model::origins` says that settling, where no shadow is kept, and a cut take the state from there.
 pub fn copied(positions: &[(Role, u32)], limit: u32) -> Origin
     ensures copied { result ≡ successor positions.now limit }
     ensures fresh { (result ≡ Fresh) ↔ AllByRecursion (λ x. limit < x.1) positions.now }
