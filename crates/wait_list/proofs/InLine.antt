@@ -1,5 +1,5 @@
 -- Those that wait in their order by deadline, and the same in the order of numbers.
-use Rattle.std.proofs.Common.{◌≡◌, ◌<◌, Bool, true, false, not, List, [], ◌∷◌, ◌++◌, filter, Some, option_map, slice_get, refl, ap, sym, ◌∙◌, arith}
+use Rattle.std.proofs.Common.{◌≡◌, ◌<◌, Bool, true, false, not, List, [], ◌∷◌, ◌++◌, filter, length, ℕ, Option, Some, None, ◌↔◌, option_map, slice_get, refl, ap, sym, ◌∙◌, arith}
 use Rattle.std.specs.List.{AllByRecursion}
 use Rattle.std.specs.Set.{remove_key}
 use Rattle.std.specs.BTreeMap.{is_at}
@@ -51,6 +51,15 @@ front-first k [] e h = cc
 front-first k (w ∷ ws) e h =
     let same : w ≡ k = let there : Some w ≡ Some k = e in cc in
     ap (option_map (λ (v : Waiting). v.1)) (first-in_line w ws h) ∙ ap (λ (v : Waiting). Some v.1) same
+
+pub empty-nobody : (keys : List Waiting) → (0 < length keys → ⊥) → None ≡ option_map (λ (w : Waiting). w.1) (first_by comes_first (by_number keys))
+empty-nobody [] h = refl
+empty-nobody (w ∷ ws) h = absurd (h (omega arith))
+
+-- an answer that tells who is first is none exactly where nobody waits
+pub none-nobody : (answer : Option ℕ) (ws : List Waiting) → answer ≡ option_map (λ (w : Waiting). w.1) (first_by comes_first ws) → (answer ≡ None) ↔ (ws ≡ [])
+none-nobody answer [] h = ((λ e. refl), λ e. h)
+none-nobody answer (w ∷ ws) h = ((λ e. let no = sym h ∙ e in cc), λ e. cc)
 
 filter-keeps : {X : Type 0} (test : X → Bool) (xs : List X) → AllByRecursion (λ x. test x ≡ true) xs → filter test xs ≡ xs
 filter-keeps test [] all = refl

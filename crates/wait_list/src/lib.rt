@@ -1,7 +1,7 @@
 //! The transactions that wait for a lane.
 #![tactic(auto)]
 
-ghost use Rattle.std.specs.Prelude.{◌≡◌, ◌<◌, ◌++◌, [], ◌∷◌, not, length, filter, option_map, OnOk, OnErr};
+ghost use Rattle.std.specs.Prelude.{◌≡◌, ◌↔◌, None, ◌<◌, ◌++◌, [], ◌∷◌, not, length, filter, option_map, OnOk, OnErr};
 ghost use Rattle.std.specs.List.{AllByRecursion};
 ghost use Rattle.forest_model.specs.Choose.{first_by};
 ghost use Rattle.wait_list.specs.Waiting.{Waiting as WaitingOf, comes_first, is_same};
@@ -59,7 +59,8 @@ impl WaitList {
 
     /// The number of the first by deadline, and of equal ones by number. `None` exactly where nobody waits.
     pub fn first(&self) -> Option<u32>
-        ensures { result ≡ option_map (λ (w : WaitingOf). w.1) (first_by comes_first self.now) }
+        ensures value { result ≡ option_map (λ (w : WaitingOf). w.1) (first_by comes_first self.now) }
+        ensures none { (result ≡ None) ↔ (self.now ≡ []) }
     {
         match self.line.first() {
             Some(first) => Some(first.1),
