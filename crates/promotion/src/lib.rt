@@ -11,7 +11,8 @@ use fork_rule::copied;
 
 /// Where the optimistic shadow of a transaction comes from after a commit with a cut that the old one does not survive,
 /// by the roles and positions of the transaction's shadows in their order: the furthest that survives, and of several
-/// the first. Never `Keep`, and `Fresh` exactly where all have passed the cut.
+/// the first. Never `Keep`, and `Fresh` exactly where all have passed the cut. `forest_model::origins` says that a cut
+/// takes the state from there.
 pub fn heir(positions: &[(Role, u32)], cut: u32) -> Origin
     ensures heir { result ≡ successor positions.now cut }
     ensures moves { result ≢ Keep }
