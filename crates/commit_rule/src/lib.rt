@@ -11,7 +11,8 @@ use access_sets::{ReadLog, WriteSet};
 use conflict_table::point;
 
 /// The least position of a table read whose item the committed effect changes, where there is one: the number of steps
-/// before that read. `None` exactly where nothing that was read is changed.
+/// before that read. `None` exactly where nothing that was read is changed. Against a transaction that is done it is the
+/// point, else there is none (`forest_model::survival`).
 pub fn cut(reads: &ReadLog, effect: &WriteSet) -> Option<u32>
     ensures cut { result ≡ point_of reads.now.reads effect.now }
     ensures none { (result ≡ None) ↔ AllByRecursion (λ r. own effect.now r.1 ≡ None) reads.now.reads }
@@ -19,7 +20,8 @@ pub fn cut(reads: &ReadLog, effect: &WriteSet) -> Option<u32>
     point(reads, effect)
 }
 
-/// Whether a shadow that stands here survives the cut: at or before it, and everywhere where there is none.
+/// Whether a shadow that stands here survives the cut: at or before it, and everywhere where there is none. What survives
+/// stands on the same run over the new tables (`forest_model::survival`).
 pub fn survives(position: u32, cut: Option<u32>) -> bool
     ensures { result ≡ survives_of cut position }
 {

@@ -8,6 +8,8 @@ fn cuts_at_the_earliest_read_that_changes(rt: HostRuntime) -> Result<(), Fail> {
     reads.note(0, 3, 30);
     reads.note(2, 1, 10);
     let mut effect = WriteSet::with_room(rt.alloc(), 4)?;
+    // what changes nothing cuts nothing
+    assert_eq!(rt; cut(&reads, &effect), None);
     effect.set(0, 5);
     assert_eq!(rt; cut(&reads, &effect), None);
     effect.set(1, 5);
