@@ -19,3 +19,19 @@ fn points_at_the_earliest_read_of_a_written_item(rt: HostRuntime) -> Result<(), 
     assert_eq!(rt; point(&reads, &writes), Some(1));
     Ok(())
 }
+
+#[test]
+fn points_at_a_first_step_that_reads(rt: HostRuntime) -> Result<(), Fail> {
+    // { r0 = a[0]; r1 = a[4]; r2 = a[1]; }, of which nobody writes a[4]
+    let mut reads = ReadLog::with_room(rt.alloc(), 8)?;
+    reads.note(0, 0, 5);
+    reads.note(1, 4, 0);
+    reads.note(2, 1, 0);
+    let mut writes = WriteSet::with_room(rt.alloc(), 8)?;
+    assert_eq!(rt; point(&reads, &writes), None);
+    writes.set(1, 3);
+    assert_eq!(rt; point(&reads, &writes), Some(2));
+    writes.set(0, 6);
+    assert_eq!(rt; point(&reads, &writes), Some(0));
+    Ok(())
+}
