@@ -32,6 +32,7 @@ pub mod SeatPlaces
 pub mod Seating
 pub mod Seen
 pub mod SettledForest
+pub mod Skipping
 pub mod Slots
 pub mod Starting
 pub mod StepWants

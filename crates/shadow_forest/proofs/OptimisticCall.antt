@@ -26,7 +26,7 @@ use Rattle.shadow_state.specs.Bank.{Slot, at_place}
 use Rattle.shadow_lanes.specs.Seats.{Seat, Seated, slots_of, slot_at, started_of, stepped_slot, seat_with, StepsOver}
 use Rattle.shadow_forest.specs.View.{View}
 use Rattle.shadow_forest.specs.declared.txn.Txn.{Txn}
-use Rattle.shadow_forest.specs.Parts.{nodes_at, renewed, wanted_among, all_renewed}
+use Rattle.shadow_forest.specs.Parts.{nodes_at, renewed, wanted_among, readers_renewed}
 use Rattle.shadow_forest.specs.Ready.{AreCarried}
 use Rattle.forest_model.specs.Point.{Conflict}
 use Rattle.shadow_forest.specs.Kept.{forest_of, IsForest}
@@ -179,7 +179,7 @@ module _ (journal : Recorded) (d : Tables) (kept : List Txn) (queue : List ℕ) 
 
   pub write_call : (item : ℕ) (v : ℤ) (first : Seated) (old : Slot) (st : Held) (new : Seated) → kind ≡ Write item v → position ≡ state.position → now.numbers ≡ forest_of journal d s
       → slot_at s.seats at 0 ≡ Some old → first ≡ record s { seats = at_place at (seat_with 0 (stepped_slot st)) s.seats } → StepsOver nodes d old.state st
-      → new ≡ record first { seats = all_renewed first.most first.items kept first.seats } → IsOptimisticStep journal d kept queue t now position new
+      → new ≡ record first { seats = readers_renewed first.most first.items kept t item first.seats } → IsOptimisticStep journal d kept queue t now position new
   write_call item v first old st new is at_is seen there step_is steps new_is =
       let same : old ≡ c.v.a.seat.optimistic = some_same _ _ (sym there ∙ first_slot s at c.v.a.seat c.v.a.there) in
       let next = next_of old st (λ e. let q : Write item v ≡ Ended = sym is ∙ e in cc) same steps in

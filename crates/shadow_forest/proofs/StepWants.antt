@@ -1,9 +1,9 @@
 -- What a step of an optimistic shadow changes of what is wanted.
-use Rattle.std.proofs.Common.{◌≡◌, ◌≢◌, ℕ, suc, ◌+◌, ◌<◌, ◌==◌, min, List, [], ◌∷◌, ◌++◌, map, is_some, Option, Some, None, refl, ap, sym, subst, ◌∙◌, arith, eq-eqb, true≢false}
-use Rattle.std.specs.Prelude.{if◌then◌else◌}
+use Rattle.std.proofs.Common.{◌≡◌, ◌≢◌, ℕ, suc, ◌+◌, ◌<◌, ◌==◌, min, ℤ, Bool, true, false, List, [], ◌∷◌, ◌++◌, map, is_some, Option, Some, None, refl, ap, ap₂, sym, subst, ◌∙◌, arith, eq-eqb, true≢false, get_or-set_other}
+use Rattle.std.specs.Prelude.{if◌then◌else◌, slice_set}
 use Rattle.std.specs.List.{AllByRecursion}
 use Rattle.std.proofs.lemmas.Bool.{cases_Bool, cond_both}
-use Rattle.txn_runs.specs.Run.{Tables, Read, Writes, own, stored, after}
+use Rattle.txn_runs.specs.Run.{Tables, Read, Writes, own, logged, stored, after}
 use Rattle.txn_runs.specs.Kind.{kind_of, Changes}
 use Rattle.txn_runs.specs.declared.kind.Kind.TheVariants.{Local, TableRead, Write}
 use Rattle.txn_runs.specs.declared.program.Program.{Program}
@@ -52,25 +52,53 @@ local_step p d n kind = subst (λ k. Changes k d n (after p d n) (after p d (suc
 pub read_step : (p : Program) (d : Tables) (n item : ℕ) → kind_of (after p d n) ≡ TableRead item → (reads p d (suc n) ≡ reads p d n ++ (n, item, stored d item) ∷ []) × (writes p d (suc n) ≡ writes p d n)
 read_step p d n item kind = subst (λ k. Changes k d n (after p d n) (after p d (suc n))) kind (one_step p d n)
 
-pub write_step : (p : Program) (d : Tables) (n item : ℕ) (v : _) → kind_of (after p d n) ≡ Write item v → reads p d (suc n) ≡ reads p d n
-write_step p d n item v kind = (subst (λ k. Changes k d n (after p d n) (after p d (suc n))) kind (one_step p d n)).0
+pub write_step : (p : Program) (d : Tables) (n item : ℕ) (v : ℤ) → kind_of (after p d n) ≡ Write item v → (reads p d (suc n) ≡ reads p d n) × (writes p d (suc n) ≡ slice_set (writes p d n) item (Some v))
+write_step p d n item v kind = subst (λ k. Changes k d n (after p d n) (after p d (suc n))) kind (one_step p d n)
+
+-- The point after one write more.
+
+-- what was read is changed as before by the write of another item
+other_changed : (item : ℕ) (v : ℤ) (ws : Writes) (x : Read) → x.1 == item ≡ false → is_changed (slice_set ws item (Some v)) x ≡ is_changed ws x
+other_changed item v ws x e = let ne : x.1 ≢ item = (λ q. true≢false (sym (eq-eqb _ _ q) ∙ e)) in rw get_or-set_other refl
+
+unread_by : (x : Read) (rs : List Read) (item : ℕ) (b : Bool) → is_some (if b then Some x.2 else logged rs item) ≡ false → (b ≡ false) × (is_some (logged rs item) ≡ false)
+unread_by x rs item true e = cc
+unread_by x rs item false e = (refl, e)
+
+-- a write of an item that was not read leaves the point
+pub point_unread : (item : ℕ) (v : ℤ) (ws : Writes) (rs : List Read) → is_some (logged rs item) ≡ false → point rs (slice_set ws item (Some v)) ≡ point rs ws
+point_unread item v ws [] h = refl
+point_unread item v ws (x ∷ rs) h =
+    let apart = unread_by x rs item (x.1 == item) h in
+    point_cons x (slice_set ws item (Some v)) rs
+    ∙ ap₂ (λ (b : Bool) (o : Option ℕ). if b then Some (less_or o x.0) else o) (other_changed item v ws x apart.0) (point_unread item v ws rs apart.1)
+    ∙ sym (point_cons x ws rs)
 
 -- What is wanted, after a change that keeps the numbers.
 
-pub wants_same : (f : Forest) (m : Started → Started) (y : Started) → ((x : Started) → (m x).number ≡ x.number) → reads_of f (m y) ≡ reads_of f y
-    → AllByRecursion (λ (u : Started). u.number ≢ y.number → writes_of f (m u) ≡ writes_of f u) f.started → wanted (record f { started = map m f.started }) (m y) ≡ wanted f y
-wants_same f m y counts rs ws =
+-- and the points against the others
+pub wants_points : (f : Forest) (m : Started → Started) (y : Started) → ((x : Started) → (m x).number ≡ x.number)
+    → AllByRecursion (λ (u : Started). u.number ≢ y.number → point (reads_of f (m y)) (writes_of f (m u)) ≡ point (reads_of f y) (writes_of f u)) f.started
+    → wanted (record f { started = map m f.started }) (m y) ≡ wanted f y
+wants_points f m y counts points =
     ap (λ pairs. wanted_of pairs f.k)
     (filter_map-map (against (record f { started = map m f.started }) (m y)) m f.started
     ∙ filter_map-agree (λ u. against (record f { started = map m f.started }) (m y) (m u)) (against f y) f.started
-    (all-weaken (λ (u : Started). u.number ≢ y.number → writes_of f (m u) ≡ writes_of f u) (λ u. against (record f { started = map m f.started }) (m y) (m u) ≡ against f y u)
-    (λ u of_u. pair u of_u) f.started ws))
+    (all-weaken (λ (u : Started). u.number ≢ y.number → point (reads_of f (m y)) (writes_of f (m u)) ≡ point (reads_of f y) (writes_of f u))
+    (λ u. against (record f { started = map m f.started }) (m y) (m u) ≡ against f y u) (λ u of_u. pair u of_u) f.started points))
   where
-    pair : (u : Started) → (u.number ≢ y.number → writes_of f (m u) ≡ writes_of f u) → against (record f { started = map m f.started }) (m y) (m u) ≡ against f y u
+    pair : (u : Started) → (u.number ≢ y.number → point (reads_of f (m y)) (writes_of f (m u)) ≡ point (reads_of f y) (writes_of f u)) → against (record f { started = map m f.started }) (m y) (m u) ≡ against f y u
     pair u of_u =
         either (cases_Bool (u.number == y.number))
         (λ e. rw (counts u, counts y, e) refl)
         (λ e.
         let apart : u.number ≢ y.number = (λ q. true≢false (sym (eq-eqb _ _ q) ∙ e)) in
-        let points : point (reads_of f (m y)) (writes_of f (m u)) ≡ point (reads_of f y) (writes_of f u) = rw (rs, of_u apart) refl in
-        ap (λ p. if (m u).number == (m y).number then None else conflict_at (m u).number p) points ∙ rw (counts u, counts y) refl)
+        ap (λ p. if (m u).number == (m y).number then None else conflict_at (m u).number p) (of_u apart) ∙ rw (counts u, counts y) refl)
+
+-- and what y has read and the others have written
+pub wants_same : (f : Forest) (m : Started → Started) (y : Started) → ((x : Started) → (m x).number ≡ x.number) → reads_of f (m y) ≡ reads_of f y
+    → AllByRecursion (λ (u : Started). u.number ≢ y.number → writes_of f (m u) ≡ writes_of f u) f.started → wanted (record f { started = map m f.started }) (m y) ≡ wanted f y
+wants_same f m y counts rs ws =
+    wants_points f m y counts
+    (all-weaken (λ (u : Started). u.number ≢ y.number → writes_of f (m u) ≡ writes_of f u) (λ (u : Started). u.number ≢ y.number → point (reads_of f (m y)) (writes_of f (m u)) ≡ point (reads_of f y) (writes_of f u))
+    (λ u of_u apart. ap₂ point rs (of_u apart)) f.started ws)

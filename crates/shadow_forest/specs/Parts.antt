@@ -1,6 +1,6 @@
 -- What the forest's code makes of the started transactions and their states.
 use Rattle.std.specs.Prelude.{ℕ, zero, suc, ◌-◌, Bool, true, false, not, ◌&&◌, ◌||◌, ◌==◌, nat_lt, if◌then◌else◌, List, [], ◌∷◌, map, filter, filter_map, flat_map, slice_get, is_some, Option, None, Some}
-use Rattle.txn_runs.specs.Run.{Writes, own}
+use Rattle.txn_runs.specs.Run.{Writes, own, logged}
 use Rattle.txn_code.specs.declared.node.Node.{Node}
 use Rattle.block_rule.specs.declared.role.Role.{Role}
 use Rattle.block_rule.specs.declared.role.Role.TheVariants.{Optimistic, Guard}
@@ -73,6 +73,18 @@ renewed_among k items txns seats r = renewed (nodes_at txns r.number) items (wan
 abbrev pub all_renewed : ℕ → ℕ → List Txn → List Seat → List Seat
 all_renewed k items txns seats = map (renewed_among k items txns seats) seats
 
+-- r has read the item of the tables
+abbrev pub has_read : ℕ → Seat → Bool
+has_read item r = is_some (logged r.optimistic.state.log.reads item)
+
+-- r after t's write of the item: with the shadows that it wants among these, if it is another one that has read the item
+abbrev pub reader_renewed : ℕ → ℕ → List Txn → ℕ → ℕ → List Seat → Seat → Seat
+reader_renewed k items txns t item seats r = if not (r.number == t) && has_read item r then renewed_among k items txns seats r else r
+
+-- all after t's write of the item
+abbrev pub readers_renewed : ℕ → ℕ → List Txn → ℕ → ℕ → List Seat → List Seat
+readers_renewed k items txns t item seats = map (reader_renewed k items txns t item seats) seats
+
 -- After a commit.
 
 -- r after a cut, if there is one
@@ -142,6 +154,11 @@ seat_rows txns r =
 -- the rows of all
 abbrev pub all_rows : List Txn → List Seat → List Row
 all_rows txns seats = flat_map (seat_rows txns) seats
+
+-- this row comes before those of t, by deadline and number
+abbrev pub comes_before : Option Row → ℕ → ℕ → Bool
+comes_before None t deadline = false
+comes_before (Some b) t deadline = nat_lt b.deadline deadline || (b.deadline == deadline && nat_lt b.txn t)
 
 -- One more.
 

@@ -8,6 +8,7 @@ pub enum BeginRefusal {
     Sealed,
     /// 20,000 transactions began.
     TooMany,
+    /// There is not the memory that its whole life takes.
     OutOfMemory,
 }
 
@@ -62,6 +63,7 @@ pub enum Life {
     Unknown,
     /// It waits for a lane.
     Waiting,
+    /// It holds a lane.
     Started,
 }
 

@@ -8,9 +8,9 @@ ghost use Rattle.block_rule.specs.declared.role.Role.TheVariants.{Optimistic, Gu
 ghost use Rattle.forest_model.specs.Forest.{Started, find_started, length_of, is_ended};
 ghost use Rattle.forest_model.specs.Told.{looks};
 ghost use Rattle.forest_model.specs.Runs.{is_done as is_done_of};
-ghost use Rattle.forest_model.specs.Sound.{IsSound};
+ghost use Rattle.forest_model.specs.Sound.{IsSound, IsHome, IsIdle};
 ghost use Rattle.forest_model.specs.Events.{begin as begin_of, seal as seal_of, step as step_of, commit as commit_of, withdraw as withdraw_of, step_role, committed};
-ghost use Rattle.forest_model.specs.Drain.{after_step, run_idle as run_idle_of, drain_step as drain_step_of};
+ghost use Rattle.forest_model.specs.Drain.{after_step, run_idle as run_idle_of, drain_step as drain_step_of, drain as drain_of};
 ghost use Rattle.forest_model.specs.Jobs.{recall as recall_of};
 ghost use Rattle.shadow_forest.specs.View.{View, opened_view, with_numbers, commit_view, withdraw_view, drain_step_view, drain_view, told_commit};
 ghost use Rattle.shadow_forest.specs.Answers.{begin_refusal, step_answer, step_ticks, commit_refusal, withdraw_refusal, did_ticks, life_of, resumed_pair, looks_of, outs, IsWithin};
@@ -24,7 +24,7 @@ use crate::answers::{
 use crate::committing::{cut_others, start_waiting};
 use crate::picking::{pick, role_at};
 use crate::priority::first_ended;
-use crate::settling::{renew, renew_all, wanted_at};
+use crate::settling::{renew, renew_all, renew_readers, wanted_at};
 use crate::txn::{Txn, code_of, deadline_of};
 use block_rule::{Role, Standing, status};
 use forest_model::Did;
@@ -214,7 +214,8 @@ impl Forest {
     }
 
     /// Begins a transaction and answers its number: it is started where a lane is free, and waits else. Takes the memory for its
-    /// whole life. A refusal leaves all as it was; want of memory comes last.
+    /// whole life. At most 20,000 begin; the program fits the tables, and the deadline is at most 1,000,000,000,000. A refusal
+    /// leaves all as it was; want of memory comes last.
     pub fn begin(&mut self, program: Program, deadline: u64) -> Result<u32, BeginRefusal>
         requires fits { reach program ≤ length self.old.numbers.tables }
         requires deadline { deadline ≤ 1000000000000 }
@@ -310,10 +311,12 @@ impl Forest {
         self.lanes.recall();
     }
 
-    /// Makes steps of the pick until there is none, and answers how many. Each ticks once.
+    /// Makes steps of the pick until there is none, and answers how many. Each ticks once. If nothing was out, each optimistic
+    /// shadow has then ended and each other one stands at its point.
     pub fn run_idle<L: Ledger>(&mut self, steps: &mut Steps<L>) -> u64
         ensures made { result ≡ (run_idle_of self.old.numbers).0 }
         ensures next { self.new ≡ with_numbers (run_idle_of self.old.numbers).1 self.old }
+        ensures idle { IsHome self.old.numbers → IsIdle self.new.numbers }
         ensures ticks { steps.new ≡ steps.old + result }
     {
         // with these limits the steps can be counted
@@ -358,6 +361,7 @@ impl Forest {
     /// Calls all home, and then commits and makes steps until nothing is left to do. Afterwards no transaction is live.
     pub fn drain<L: Ledger>(&mut self, steps: &mut Steps<L>)
         ensures next { self.new ≡ (drain_view self.old).1 }
+        ensures numbers { self.new.numbers ≡ (drain_of self.old.numbers).1 }
         ensures empty { (t : ℕ) → is_live self.new.numbers.journal t ≡ false }
         ensures ticks { steps.new ≡ steps.old + (drain_view self.old).0 }
     {
@@ -441,9 +445,9 @@ impl Forest {
                 renew(&mut self.lanes, place, conflicts.as_slice(), code);
                 self.lanes.step(place, 0, code, &self.tables, steps)
             }
-            Kind::Write { .. } => {
+            Kind::Write { item, .. } => {
                 self.lanes.step(place, 0, code, &self.tables, steps);
-                renew_all(&mut self.lanes, &self.txns)
+                renew_readers(&mut self.lanes, &self.txns, txn, item)
             }
         }
         Stepped::Stepped { position }

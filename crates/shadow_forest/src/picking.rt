@@ -3,7 +3,7 @@ ghost use Rattle.std.specs.Prelude.{◌≡◌, ◌<◌, [], ◌∷◌, ◌++◌,
 ghost use Rattle.forest_model.specs.Pick.{pick_of};
 ghost use Rattle.block_rule.specs.declared.role.Row.{Row as RowOf};
 ghost use Rattle.shadow_lanes.specs.Seats.{Seat, slots_of};
-ghost use Rattle.shadow_forest.specs.Parts.{seat_rows, all_rows, role_in};
+ghost use Rattle.shadow_forest.specs.Parts.{seat_rows, all_rows, role_in, comes_before};
 ghost use Rattle.shadow_forest.specs.Ready.{AreCarried};
 
 use crate::txn::{Txn, deadline_of};
@@ -29,6 +29,10 @@ fn pick_at(lanes: &Lanes, txns: &[Txn], place: u32, best: Option<Row>) -> Option
     requires carried { AreCarried lanes.now.items txns.now lanes.now.seats }
     ensures { (r : Seat) (before : List RowOf) → slice_get lanes.now.seats place ≡ Some r → best ≡ pick_of before → result ≡ pick_of (before ++ seat_rows txns.now r) }
 {
+    let txn = lanes.number(place);
+    if comes_first(best, txn, deadline_of(txns, txn)) {
+        return best;
+    }
     // the limits come with the number of the started
     let _ = lanes.len();
     let shadows = lanes.conflicts(place).len() as u32 + 1;
@@ -37,6 +41,16 @@ fn pick_at(lanes: &Lanes, txns: &[Txn], place: u32, best: Option<Row>) -> Option
         best = better(best, row_at(lanes, txns, place, slot));
     }
     best
+}
+
+// Whether this row comes before all of a transaction's rows, which share its deadline and its number.
+fn comes_first(best: Option<Row>, txn: u32, deadline: u64) -> bool
+    ensures { result ≡ comes_before best txn deadline }
+{
+    match best {
+        None => false,
+        Some(row) => row.deadline < deadline || (row.deadline == deadline && row.txn < txn),
+    }
 }
 
 // A shadow as the pick sees it.

@@ -1,17 +1,19 @@
 // Conflicts, and the shadows that they ask for.
-ghost use Rattle.std.specs.Prelude.{◌≡◌, ◌<◌, ◌≤◌, suc, None, Some, length, slice_get, filter_map};
+ghost use Rattle.std.specs.Prelude.{◌≡◌, ◌<◌, ◌≤◌, ◌&&◌, ◌==◌, not, suc, None, Some, length, slice_get, filter_map};
 ghost use Rattle.txn_interp.specs.State.{Carries};
 ghost use Rattle.shadow_state.specs.Bank.{at_place};
 ghost use Rattle.shadow_lanes.specs.Seats.{Seat, AreSeats};
-ghost use Rattle.shadow_forest.specs.Parts.{conflict_between, wanted_among, same_conflicts, renewed, all_renewed};
-ghost use Rattle.shadow_forest.specs.Ready.{AreCarried};
+ghost use Rattle.shadow_forest.specs.Parts.{conflict_between, wanted_among, same_conflicts, renewed, all_renewed, readers_renewed, has_read, nodes_at};
+ghost use Rattle.shadow_forest.specs.Ready.{AreCarried, IsCarried};
 
 use crate::txn::{Txn, code_of};
+use access_sets::WriteSet;
 use arrayvec::ArrayVec;
 use conflict_table::point;
 use replacement::wanted;
 use shadow_lanes::Lanes;
 use txn_code::Code;
+use txn_interp::State;
 
 /// The guards and points against which the transaction at a place wants a shadow, now or, where it is about to read an item, after
 /// that read.
@@ -29,9 +31,11 @@ fn points_at(lanes: &Lanes, place: u32, next: Option<u32>) -> ArrayVec<(u32, u32
     ensures limits { AreSeats lanes.now }
     ensures points { (r : Seat) → slice_get lanes.now.seats place ≡ Some r → result.items ≡ filter_map (conflict_between next r) lanes.now.seats }
 {
+    let number = lanes.number(place);
+    let reader = lanes.state(place, 0);
     let mut points = ArrayVec::new();
     for other in 0..lanes.len() {
-        match conflict(lanes, place, other, next) {
+        match conflict(lanes, other, number, reader, next) {
             None => {}
             Some(pair) => points.push(pair),
         }
@@ -39,32 +43,34 @@ fn points_at(lanes: &Lanes, place: u32, next: Option<u32>) -> ArrayVec<(u32, u32
     points
 }
 
-fn conflict(lanes: &Lanes, place: u32, other: u32, next: Option<u32>) -> Option<(u32, u32)>
-    requires place { place < length lanes.now.seats }
-    requires other { other < length lanes.now.seats }
-    ensures { (r u : Seat) → slice_get lanes.now.seats place ≡ Some r → slice_get lanes.now.seats other ≡ Some u → result ≡ conflict_between next r u }
+// The conflict of a transaction of this number, whose optimistic state this is, with the one at a place.
+fn conflict(
+    lanes: &Lanes,
+    other: u32,
+    number: u32,
+    reader: &State,
+    next: Option<u32>,
+) -> Option<(u32, u32)>
+    requires { other < length lanes.now.seats }
+    ensures { (r u : Seat) → r.number ≡ number → r.optimistic.state ≡ reader.now → slice_get lanes.now.seats other ≡ Some u → result ≡ conflict_between next r u }
 {
-    let number = lanes.number(other);
-    if number == lanes.number(place) {
+    let guard = lanes.number(other);
+    if guard == number {
         return None;
     }
-    match point_before(lanes, place, other, next) {
+    match point_before(reader, lanes.state(other, 0).writes(), next) {
         None => None,
-        Some(at) => Some((number, at)),
+        Some(at) => Some((guard, at)),
     }
 }
 
 ghost use Rattle.shadow_forest.specs.Parts.{point_with};
 ghost use Rattle.forest_model.specs.Point.{point as point_of};
 
-fn point_before(lanes: &Lanes, place: u32, other: u32, next: Option<u32>) -> Option<u32>
-    requires place { place < length lanes.now.seats }
-    requires other { other < length lanes.now.seats }
-    ensures { (r u : Seat) → slice_get lanes.now.seats place ≡ Some r → slice_get lanes.now.seats other ≡ Some u
-        → result ≡ point_with next r.optimistic.state.position u.optimistic.state.writes (point_of r.optimistic.state.log.reads u.optimistic.state.writes) }
+// The point of this state against these writes, now or after the read that comes next.
+fn point_before(reader: &State, writes: &WriteSet, next: Option<u32>) -> Option<u32>
+    ensures { result ≡ point_with next reader.now.position writes.now (point_of reader.now.log.reads writes.now) }
 {
-    let reader = lanes.state(place, 0);
-    let writes = lanes.state(other, 0).writes();
     match (point(reader.reads(), writes), next) {
         (None, Some(item)) => {
             if writes.get(item).is_some() {
@@ -109,8 +115,39 @@ pub(crate) fn renew_all(lanes: &mut Lanes, txns: &[Txn])
     ensures { lanes.new ≡ record lanes.old { seats = all_renewed lanes.old.most lanes.old.items txns.now lanes.old.seats } }
 {
     for place in 0..lanes.len() {
-        let conflicts = wanted_at(lanes, place, None);
-        let code = code_of(txns, lanes.number(place));
-        renew(lanes, place, conflicts.as_slice(), code);
+        renew_at(lanes, txns, place);
     }
+}
+
+/// After a transaction's write of an item each other one that has read it has the shadows that it wants now. The others want what
+/// they wanted before.
+pub(crate) fn renew_readers(lanes: &mut Lanes, txns: &[Txn], writer: u32, item: u32)
+    requires { AreCarried lanes.old.items txns.now lanes.old.seats }
+    ensures { lanes.new ≡ record lanes.old { seats = readers_renewed lanes.old.most lanes.old.items txns.now writer item lanes.old.seats } }
+{
+    for place in 0..lanes.len() {
+        if is_reader(lanes, place, writer, item) {
+            renew_at(lanes, txns, place);
+        }
+    }
+}
+
+// Whether the transaction at a place is another one than the writer, and has read the item.
+fn is_reader(lanes: &Lanes, place: u32, writer: u32, item: u32) -> bool
+    requires { place < length lanes.now.seats }
+    ensures { (r : Seat) → slice_get lanes.now.seats place ≡ Some r → result ≡ (not (r.number == writer) && has_read item r) }
+{
+    lanes.number(place) != writer && lanes.state(place, 0).reads().get(item).is_some()
+}
+
+// The transaction at a place has the shadows that it wants now.
+fn renew_at(lanes: &mut Lanes, txns: &[Txn], place: u32)
+    requires place { place < length lanes.old.seats }
+    requires carried { (r : Seat) → slice_get lanes.old.seats place ≡ Some r → IsCarried lanes.old.items txns.now r.number }
+    ensures { (r : Seat) → slice_get lanes.old.seats place ≡ Some r
+        → lanes.new ≡ record lanes.old { seats = at_place place (renewed (nodes_at txns.now r.number) lanes.old.items (wanted_among lanes.old.most None lanes.old.seats r)) lanes.old.seats } }
+{
+    let conflicts = wanted_at(lanes, place, None);
+    let code = code_of(txns, lanes.number(place));
+    renew(lanes, place, conflicts.as_slice(), code);
 }

@@ -2,6 +2,7 @@ use Rattle.std.proofs.Common.{◌≡◌, ◌<◌, ◌++◌, [], ◌∷◌, lengt
 use Rattle.std.proofs.lemmas.List.{take_all, length_push}
 use Rattle.shadow_forest.specs.Parts.{conflict_between}
 use Rattle.shadow_forest.proofs.Places.{slice_get-some, filter_map_more-none, filter_map_more-some}
+use Rattle.shadow_forest.proofs.SeatPlaces.{number-at, state-at}
 use Rattle.shadow_forest.proofs.settling.points_at.Goals as goal
 use Rattle.shadow_forest.proofs.settling.points_at.Goals.{in-None, in-Some}
 
@@ -20,7 +21,7 @@ loop-other-preserved c =
           record {
             points =
                 λ r is. ap (λ v. v.items) w.points-is ∙ c.loop-other.invariant.points r is
-                ∙ sym (filter_map_more-none (conflict_between c.args.next r) c.args.lanes.now.seats c.loop-other.other here.0 here.1 (sym (c.conflict.ensures r here.0 is here.1) ∙ w.in-None.is));
+                ∙ sym (filter_map_more-none (conflict_between c.args.next r) c.args.lanes.now.seats c.loop-other.other here.0 here.1 (sym (c.conflict.ensures r here.0 (number-at c.args.lanes.now.seats c.args.place r c.number-number.result is c.number-number.ensures) (state-at c.args.lanes.now.seats c.args.place r c.state-reader.result.now is c.state-reader.ensures.state) here.1) ∙ w.in-None.is));
             few = omega (arith, ap (λ v. length v.items) w.points-is, c.loop-other.invariant.few);
           }
       | in-Some w ↦
@@ -28,7 +29,7 @@ loop-other-preserved c =
           record {
             points =
                 λ r is. pushed ∙ ap (λ ps. ps ++ w.in-Some.pair ∷ []) (c.loop-other.invariant.points r is)
-                ∙ sym (filter_map_more-some (conflict_between c.args.next r) c.args.lanes.now.seats c.loop-other.other here.0 w.in-Some.pair here.1 (sym (c.conflict.ensures r here.0 is here.1) ∙ w.in-Some.is));
+                ∙ sym (filter_map_more-some (conflict_between c.args.next r) c.args.lanes.now.seats c.loop-other.other here.0 w.in-Some.pair here.1 (sym (c.conflict.ensures r here.0 (number-at c.args.lanes.now.seats c.args.place r c.number-number.result is c.number-number.ensures) (state-at c.args.lanes.now.seats c.args.place r c.state-reader.result.now is c.state-reader.ensures.state) here.1) ∙ w.in-Some.is));
             few = omega (arith, ap length pushed, length_push c.loop-other.points.items w.in-Some.pair, c.loop-other.invariant.few);
           }
     ]

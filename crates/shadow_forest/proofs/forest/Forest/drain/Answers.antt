@@ -39,12 +39,15 @@ returns-then-matches-clause-next g c =
     ∙ (sym (ap (λ (x : ℕ × View). x.1) (rest g c))
     ∙ (c.loop.invariant.last ∙ ap (λ (x : ℕ × View). x.1) (called g c)))
 
+pub returns-then-matches-clause-numbers : goal.returns-then-matches-clause-numbers
+returns-then-matches-clause-numbers g c = ap (λ (v : View). v.numbers) (returns-then-matches-clause-next g c) ∙ drain-numbers c.args.self.now
+
 pub returns-then-matches-clause-empty : goal.returns-then-matches-clause-empty
 returns-then-matches-clause-empty g c = λ t.
     let before : IsSound c.args.self.now.numbers = subst (λ (v : View). IsSound v.numbers) c.self.view_is c.self.invariant.0.sound in
     let lane : 1 ≤ c.args.self.now.numbers.lanes = subst (λ (v : View). 1 ≤ v.numbers.lanes) c.self.view_is c.len.ensures.seats.some in
     subst (λ (f : Forest). is_live f.journal t ≡ false)
-    (sym (ap (λ (v : View). v.numbers) (returns-then-matches-clause-next g c) ∙ drain-numbers c.args.self.now))
+    (sym (returns-then-matches-clause-numbers g c))
     (drain-empty c.args.self.now.numbers t before lane)
 
 pub returns-then-matches-clause-ticks : goal.returns-then-matches-clause-ticks

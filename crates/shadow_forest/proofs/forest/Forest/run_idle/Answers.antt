@@ -1,11 +1,11 @@
 use Rattle.std.proofs.Common.{◌≡◌, ℕ, suc, ◌+◌, ◌<◌, ◌≤◌, ◌^◌, Some, ap, sym, ◌∙◌, arith, refl, subst, zero-add, add-zero}
 use Rattle.forest_model.specs.Forest.{Forest}
 use Rattle.forest_model.specs.Pick.{pick}
-use Rattle.forest_model.specs.Sound.{IsSound}
+use Rattle.forest_model.specs.Sound.{IsSound, IsIdle}
 use Rattle.forest_model.specs.Events.{step}
 use Rattle.forest_model.specs.Work.{work}
 use Rattle.forest_model.specs.Drain.{step_row, run_idle}
-use Rattle.forest_model.proofs.IdleLaws.{pick-step}
+use Rattle.forest_model.proofs.IdleLaws.{pick-step, run_idle-idle}
 use Rattle.shadow_forest.specs.Answers.{step_ticks}
 use Rattle.shadow_forest.specs.Kept.{numbers_waiting, forest_of}
 use Rattle.shadow_forest.specs.Ready.{AreCarried}
@@ -59,6 +59,11 @@ pub returns-in-None-clause-next : goal.returns-in-None-clause-next
 returns-in-None-clause-next g c =
     view-is c.loop-row.self c.args.self.now (run_idle c.args.self.now.numbers).1
     (sym (ap (λ (x : ℕ × Forest). x.1) (still g c)) ∙ c.loop-row.invariant.last) c.loop-row.invariant.resumed c.loop-row.invariant.starts
+
+pub returns-in-None-clause-idle : goal.returns-in-None-clause-idle
+returns-in-None-clause-idle g c = λ home.
+    let before : IsSound c.args.self.now.numbers = subst (λ (v : View). IsSound v.numbers) c.self.view_is c.self.invariant.0.sound in
+    subst (λ (v : View). IsIdle v.numbers) (sym (returns-in-None-clause-next g c)) (run_idle-idle c.args.self.now.numbers before home)
 
 pub returns-in-None-clause-ticks : goal.returns-in-None-clause-ticks
 returns-in-None-clause-ticks g c = c.loop-row.invariant.ticks

@@ -7,7 +7,7 @@ use Rattle.forest_model.specs.Drain.{after_step}
 use Rattle.shadow_lanes.specs.Seats.{Seated}
 use Rattle.shadow_forest.specs.View.{View, with_numbers}
 use Rattle.shadow_forest.specs.Answers.{step_answer, step_ticks}
-use Rattle.shadow_forest.specs.Parts.{nodes_at, all_renewed}
+use Rattle.shadow_forest.specs.Parts.{nodes_at, readers_renewed}
 use Rattle.shadow_forest.specs.Kept.{numbers_waiting, forest_of}
 use Rattle.shadow_forest.proofs.Placing.{at_view, carries}
 use Rattle.shadow_forest.proofs.OptimisticCall.{IsCall, call_is, first_low, first_runs, has_ended_is, may_go, IsOptimisticStep, local_call, read_call, write_call, renewed_below, renewed_go, write_all_carried}
@@ -179,26 +179,26 @@ step-requires-in-Write-clause-runs g c = λ x there.
     let v = at_view i.journal i.tables i.txns.items (numbers_waiting i.waiting) i.lanes _ _ c.args.place c.args.txn c.args.self.now c.self.view_is c.self.invariant.0 c.requires.place in
     may_go i.journal i.tables i.txns.items (numbers_waiting i.waiting) i.lanes c.args.place c.args.txn c.args.self.now c.code_of-code.result.now.nodes c.state-state.result.now c.next_kind.result (call_is i.journal i.tables i.txns.items (numbers_waiting i.waiting) i.lanes c.args.place c.args.txn c.args.self.now c.code_of-code.result.now.nodes c.state-state.result.now c.next_kind.result c.self.invariant.0 v c.state-state.ensures.state (c.code_of-code.ensures ∙ ap (λ xs. nodes_at xs c.args.txn) c.deref.ensures.value) c.next_kind.ensures.kind c.next_kind.ensures.ended) (λ e. let q : kind.Write c.in-Write.item c.in-Write.value ≡ kind.Ended = sym c.in-Write.is ∙ e in cc) x there
 
-pub renew_all-requires : goal.renew_all-requires
-renew_all-requires g c =
+pub renew_readers-requires : goal.renew_readers-requires
+renew_readers-requires g c =
     let i = c.self.inside in
     let v = at_view i.journal i.tables i.txns.items (numbers_waiting i.waiting) i.lanes _ _ c.args.place c.args.txn c.args.self.now c.self.view_is c.self.invariant.0 c.requires.place in
     let e = c.step-in-Write.ensures.seats in
     subst (λ xs. AreCarried c.step-in-Write.new.self.items xs c.step-in-Write.new.self.seats) (sym c.deref-in-Write.ensures.value)
     (write_all_carried i.journal i.tables i.txns.items (numbers_waiting i.waiting) i.lanes c.args.place c.args.txn c.args.self.now c.code_of-code.result.now.nodes c.state-state.result.now c.next_kind.result (call_is i.journal i.tables i.txns.items (numbers_waiting i.waiting) i.lanes c.args.place c.args.txn c.args.self.now c.code_of-code.result.now.nodes c.state-state.result.now c.next_kind.result c.self.invariant.0 v c.state-state.ensures.state (c.code_of-code.ensures ∙ ap (λ xs. nodes_at xs c.args.txn) c.deref.ensures.value) c.next_kind.ensures.kind c.next_kind.ensures.ended) c.position-position.result e.0 e.1 c.step-in-Write.new.self (λ e. let q : kind.Write c.in-Write.item c.in-Write.value ≡ kind.Ended = sym c.in-Write.is ∙ e in cc) e.2.0 e.2.1.1 e.2.1.0)
 
-write_is : (g : _) (c : goal.After-renew_all g) → IsOptimisticStep c.self.inside.journal c.self.inside.tables c.self.inside.txns.items (numbers_waiting c.self.inside.waiting) c.args.txn c.args.self.now c.position-position.result c.renew_all.new.lanes
+write_is : (g : _) (c : goal.After-renew_readers g) → IsOptimisticStep c.self.inside.journal c.self.inside.tables c.self.inside.txns.items (numbers_waiting c.self.inside.waiting) c.args.txn c.args.self.now c.position-position.result c.renew_readers.new.lanes
 write_is g c =
     let i = c.self.inside in
     let v = at_view i.journal i.tables i.txns.items (numbers_waiting i.waiting) i.lanes _ _ c.args.place c.args.txn c.args.self.now c.self.view_is c.self.invariant.0 c.requires.place in
     let e = c.step-in-Write.ensures.seats in
-    write_call i.journal i.tables i.txns.items (numbers_waiting i.waiting) i.lanes c.args.place c.args.txn c.args.self.now c.code_of-code.result.now.nodes c.state-state.result.now c.next_kind.result (call_is i.journal i.tables i.txns.items (numbers_waiting i.waiting) i.lanes c.args.place c.args.txn c.args.self.now c.code_of-code.result.now.nodes c.state-state.result.now c.next_kind.result c.self.invariant.0 v c.state-state.ensures.state (c.code_of-code.ensures ∙ ap (λ xs. nodes_at xs c.args.txn) c.deref.ensures.value) c.next_kind.ensures.kind c.next_kind.ensures.ended) c.position-position.result c.in-Write.item c.in-Write.value c.step-in-Write.new.self e.0 e.1 c.renew_all.new.lanes c.in-Write.is c.position-position.ensures (seen c.args.self.now _ c.self.view_is) e.2.0 e.2.1.0 e.2.1.1
-    (c.renew_all.ensures ∙ ap (λ xs. record c.step-in-Write.new.self { seats = all_renewed c.step-in-Write.new.self.most c.step-in-Write.new.self.items xs c.step-in-Write.new.self.seats }) c.deref-in-Write.ensures.value)
+    write_call i.journal i.tables i.txns.items (numbers_waiting i.waiting) i.lanes c.args.place c.args.txn c.args.self.now c.code_of-code.result.now.nodes c.state-state.result.now c.next_kind.result (call_is i.journal i.tables i.txns.items (numbers_waiting i.waiting) i.lanes c.args.place c.args.txn c.args.self.now c.code_of-code.result.now.nodes c.state-state.result.now c.next_kind.result c.self.invariant.0 v c.state-state.ensures.state (c.code_of-code.ensures ∙ ap (λ xs. nodes_at xs c.args.txn) c.deref.ensures.value) c.next_kind.ensures.kind c.next_kind.ensures.ended) c.position-position.result c.in-Write.item c.in-Write.value c.step-in-Write.new.self e.0 e.1 c.renew_readers.new.lanes c.in-Write.is c.position-position.ensures (seen c.args.self.now _ c.self.view_is) e.2.0 e.2.1.0 e.2.1.1
+    (c.renew_readers.ensures ∙ ap (λ xs. record c.step-in-Write.new.self { seats = readers_renewed c.step-in-Write.new.self.most c.step-in-Write.new.self.items xs c.args.txn c.in-Write.item c.step-in-Write.new.self.seats }) c.deref-in-Write.ensures.value)
 
 pub invariant_of-self-in-Write : goal.invariant_of-self-in-Write
 invariant_of-self-in-Write g c =
     let step : c.step-in-Write.new.self.lanes ≡ c.self.inside.lanes.lanes = ap (λ (x : Seated). x.lanes) c.step-in-Write.ensures.seats.2.1.0 in
-    let renewed : c.renew_all.new.lanes.lanes ≡ c.step-in-Write.new.self.lanes = ap (λ (x : Seated). x.lanes) c.renew_all.ensures in
+    let renewed : c.renew_readers.new.lanes.lanes ≡ c.step-in-Write.new.self.lanes = ap (λ (x : Seated). x.lanes) c.renew_readers.ensures in
     ((write_is g c).kept_all, subst (λ n. n ≤ vec_capacity c.self.inside.resumed) (sym (renewed ∙ step)) c.self.invariant.1, c.self.invariant.2)
 
 pub returns-in-Write-clause-answer : goal.returns-in-Write-clause-answer
@@ -206,7 +206,7 @@ returns-in-Write-clause-answer g c = λ r found. sym (ap step_answer ((write_is 
 
 pub returns-in-Write-clause-next : goal.returns-in-Write-clause-next
 returns-in-Write-clause-next g c = λ r found.
-    ap (with_numbers (forest_of c.self.inside.journal c.self.inside.tables c.renew_all.new.lanes)) c.self.view_is
+    ap (with_numbers (forest_of c.self.inside.journal c.self.inside.tables c.renew_readers.new.lanes)) c.self.view_is
     ∙ sym (ap (λ o. with_numbers (after_step c.args.self.now.numbers o) c.args.self.now) ((write_is g c).result r found))
 
 pub returns-in-Write-clause-ticks : goal.returns-in-Write-clause-ticks
