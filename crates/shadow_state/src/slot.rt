@@ -28,7 +28,7 @@ impl Model for KeptSlot {
 }
 
 impl KeptSlot {
-    /// Room for a state over so many items; it is not out.
+    /// Room for a state over so many items.
     pub fn open(alloc: Global, items: u32) -> Result<KeptSlot, AllocError>
         requires { items ≤ 1024 }
         ensures { IfOk result (λ s. IsOver items s) }
