@@ -97,12 +97,13 @@ pub fn settle(
     state: &State,
     tables: &mut Table,
 ) -> Result<(u32, Vec<u8>), AllocError>
-    requires { IsTrue state.now.done }
+    requires done { IsTrue state.now.done }
+    requires room { state.now.log.room ≡ length tables.old }
 {
     let outcome = state.outcome();
     let mut line = Vec::new(alloc);
     put_reply(1, &outcome, &mut line)?;
-    if matches!(outcome, Outcome::Done { .. }) && state.writes().room() == tables.len() {
+    if matches!(outcome, Outcome::Done { .. }) {
         state.writes().lay_over(tables);
     }
     Ok((state.reads().len(), line))

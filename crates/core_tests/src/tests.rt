@@ -8,6 +8,7 @@ use std::test::Fail;
 use txn_code::{Code, link};
 use txn_interp::State;
 use txn_names::Names;
+use txn_runs::{FaultKind, TableRef, item_at};
 use txn_syntax::read_program;
 
 // A table `a` of four items and a table `b` of two behind it.
@@ -33,7 +34,7 @@ fn opening(alloc: Global) -> Result<Table, AllocError> {
 // A program, and what its run must come to: its steps, its table reads, its commit line and the tables after it.
 type Case = (&'static str, u32, u32, &'static str, [i64; 6]);
 
-const CASES: [Case; 17] = [
+const CASES: [Case; 20] = [
     (
         "{ r0 = 9223372036854775807 + 1; }",
         1,
@@ -116,6 +117,27 @@ const CASES: [Case; 17] = [
         OPENING,
     ),
     (
+        "{ if -2 < 1 { emit 1; } if 2 <= 1 { emit 2; } if 1 > 1 { emit 3; } if 1 >= 1 { emit 4; } if 1 != 2 { emit 5; } if 3 == 3 { emit 6; } if 3 == 4 { emit 7; } }",
+        11,
+        0,
+        "commit 1 done 1 4 5 6\n",
+        OPENING,
+    ),
+    (
+        "{ r0 = 3037000499 * 3037000499; r1 = 6 * -7; emit r0; emit r1; }",
+        4,
+        0,
+        "commit 1 done 9223372030926249001 -42\n",
+        OPENING,
+    ),
+    (
+        "{ r0 = 6 * -7; emit r0; r1 = 1 / 0; }",
+        3,
+        0,
+        "commit 1 fault zero\n",
+        OPENING,
+    ),
+    (
         "{ loop 3 { r0 = r0 + 1; if r0 == 2 { r1 = a[r0]; a[0] = r1; } else { loop 2 { r2 = r2 + r0; } } } emit r1; emit r2; }",
         24,
         1,
@@ -163,6 +185,19 @@ fn programs_run_as_they_are_written(rt: HostRuntime) -> Result<(), Fail> {
         assert!(rt; right, "in {}", case.0);
     }
     Ok(())
+}
+
+#[test]
+fn places_are_counted_in_their_table(rt: HostRuntime) {
+    let table = TableRef {
+        number: 1,
+        base: 4,
+        size: 2,
+    };
+    assert_eq!(rt; item_at(table, 0), Ok(4));
+    assert_eq!(rt; item_at(table, 1), Ok(5));
+    assert_eq!(rt; item_at(table, 2), Err(FaultKind::Range));
+    assert_eq!(rt; item_at(table, -1), Err(FaultKind::Range));
 }
 
 // Two loops, one in the other, around a read, a write and an emit: 37 steps.

@@ -15,5 +15,9 @@ fn keeps_and_copies(rt: HostRuntime) -> Result<(), Fail> {
     let row = copy.row(1, 2);
     assert_eq!(rt; row.len(), 2);
     assert_eq!(rt; row[1], 9223372036854775807);
+    let grown = copy.grown(2)?;
+    let values = [0, -9223372036854775808, 9223372036854775807, 0, 0, 0];
+    assert_eq!(rt; grown.len(), 6);
+    assert!(rt; grown.row(0, 6) == values.as_slice());
     Ok(())
 }
