@@ -7,7 +7,8 @@ ghost use Rattle.block_rule.specs.declared.role.Row.{Row as RowOf};
 ghost use Rattle.forest_model.specs.Choose.{first_by};
 ghost use Rattle.forest_model.specs.Pick.{pick_of, rank as rank_of, is_earlier as is_earlier_of, is_ready as is_ready_of};
 
-use block_rule::{Role, Row, Standing};
+pub use block_rule::Row;
+use block_rule::{Role, Standing};
 
 /// The transaction and the role of the shadow that makes the next step: the first of those that are runnable and not
 /// out, by deadline, number, optimistic before the others, and place; of several that are equal in all four the first

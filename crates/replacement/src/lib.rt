@@ -1,7 +1,7 @@
 //! Which guards a transaction keeps a shadow for.
 #![tactic(auto)]
 
-ghost use Rattle.std.specs.Prelude.{◌≡◌, ℕ, ◌+◌, ◌<◌, ◌≤◌, length, insert, take};
+ghost use Rattle.std.specs.Prelude.{◌≡◌, ◌≤◌, length, insert, take};
 ghost use Rattle.arrayvec.specs.ArrayVec.{array_vec_len};
 ghost use Rattle.forest_model.specs.Choose.{put_in_order};
 ghost use Rattle.forest_model.specs.Point.{is_sooner as is_sooner_of, wanted_of};
@@ -9,7 +9,8 @@ ghost use Rattle.forest_model.specs.Point.{is_sooner as is_sooner_of, wanted_of}
 use arrayvec::ArrayVec;
 
 /// Of the pairs of guard and point, which the transaction numbers and positions are, the first `k - 1` by point and then
-/// by guard; `k` is from 1 to 8. What is left out is what blocks latest.
+/// by guard; `k` is from 1 to 8. What is left out is what blocks latest. `forest_model::wanting` says that they are the first
+/// in that order.
 pub fn wanted(points: &[(u32, u32)], k: u32) -> ArrayVec<(u32, u32), 7>
     requires least { 1 ≤ k }
     requires most { k ≤ 8 }
