@@ -2,7 +2,7 @@
 ghost use Rattle.std.specs.Prelude.{◌≡◌, ◌<◌};
 
 use crate::opening::{begin, one_table, open_forest};
-use crate::watch::is_right;
+use crate::watch::{is_idle, is_right};
 use block_rule::Role;
 use shadow_forest::{BeginRefusal, Forest, Stepped};
 use std::alloc::Global;
@@ -177,7 +177,7 @@ pub fn first_wrong<L: Ledger>(
     for place in 0..EVENTS {
         let event = row.event(&forest, place);
         happen(alloc, &names, &mut forest, event, tally, &mut steps)?;
-        if !is_right(alloc, &forest)? {
+        if !is_right(alloc, &forest)? || (event == Event::Run && !is_idle(&forest)) {
             return Ok(Some(place));
         }
     }

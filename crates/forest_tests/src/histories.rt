@@ -1,6 +1,6 @@
 use crate::history::Act::{
     Begin, Commit, Drain, DrainStep, Lives, NoBegin, NoCommit, NoStep, NoWithdraw, Run, Seal, Show,
-    Step, Withdraw,
+    Step, Tells, Withdraw,
 };
 use crate::history::History;
 use block_rule::Role::{Guard, Optimistic};
@@ -9,7 +9,7 @@ use shadow_forest::{BeginRefusal, CommitRefusal, Did, Life, Resumed, Stepped, Wi
 
 const ZEROS: [i64; 4] = [0, 0, 0, 0];
 
-pub const HISTORIES: [History; 13] = [
+pub const HISTORIES: [History; 14] = [
     History {
         name: "a restart",
         k: 1,
@@ -374,5 +374,41 @@ pub const HISTORIES: [History; 13] = [
         ],
         last: ZEROS,
         order: &[1, 3, 2],
+    },
+    History {
+        name: "what is told stays through refusals",
+        k: 1,
+        lanes: 2,
+        opening: ZEROS,
+        acts: &[
+            Begin(10, "{ r0 = a[0]; emit r0; }", Life::Started),
+            Begin(20, "{ a[0] = 5; }", Life::Started),
+            Begin(30, "{ }", Life::Waiting),
+            Begin(40, "{ }", Life::Waiting),
+            Step(1, Optimistic, 1),
+            Step(2, Optimistic, 1),
+            Commit(
+                2,
+                "commit 2 done\n",
+                &[Resumed {
+                    txn: 1,
+                    position: 0,
+                }],
+                Some(3),
+            ),
+            NoCommit(9, CommitRefusal::Unknown),
+            NoWithdraw(9, WithdrawRefusal::Unknown),
+            Tells(
+                &[Resumed {
+                    txn: 1,
+                    position: 0,
+                }],
+                Some(3),
+            ),
+            Withdraw(4, None),
+            Tells(&[], None),
+        ],
+        last: [5, 0, 0, 0],
+        order: &[2],
     },
 ];

@@ -32,6 +32,8 @@ pub enum Act {
     /// A withdrawal, and whom it starts.
     Withdraw(u32, Option<u32>),
     NoWithdraw(u32, WithdrawRefusal),
+    /// Whom the last accepted commit or withdrawal took back and to where, and whom it started.
+    Tells(&'static [Resumed], Option<u32>),
     /// So many steps are made until there is no pick.
     Run(u64),
     DrainStep(Did, Option<u32>),
@@ -125,6 +127,7 @@ fn does<L: Ledger>(
                 && tells(forest, &[], *starts)
         }
         Act::NoWithdraw(txn, refusal) => forest.withdraw(*txn) == Err(*refusal),
+        Act::Tells(resumed, starts) => tells(forest, resumed, *starts),
         Act::Run(made) => forest.run_idle(steps) == *made,
         Act::DrainStep(did, starts) => {
             forest.drain_step(steps) == *did && forest.started() == *starts

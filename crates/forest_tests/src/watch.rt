@@ -1,6 +1,7 @@
 // A forest set beside plain walks of its programs from their starts.
 use crate::conflicts::{Reader, are_wanted};
 use crate::serial::{is_serial, program_of};
+use block_rule::Standing;
 use plain_walk::{Walk, is_same, walk_program};
 use shadow_forest::Forest;
 use std::alloc::{AllocError, Global};
@@ -24,6 +25,26 @@ pub fn is_right(alloc: Global, forest: &Forest) -> Result<bool, AllocError> {
             && are_wanted(forest, readers.as_slice())
             && is_serial(alloc, forest)?,
     )
+}
+
+/// Whether no shadow may make a step.
+pub fn is_idle(forest: &Forest) -> bool {
+    for before in 0..forest.journal().began() {
+        let txn = before.wrapping_add(1);
+        for place in 0..forest.shadows(txn) {
+            if is_runnable(forest, txn, place) {
+                return false;
+            }
+        }
+    }
+    true
+}
+
+fn is_runnable(forest: &Forest, txn: u32, place: u32) -> bool {
+    match forest.shadow(txn, place) {
+        Some(view) => view.standing == Standing::Runnable,
+        None => false,
+    }
 }
 
 fn all_same(alloc: Global, forest: &Forest, txn: u32) -> Result<bool, AllocError> {

@@ -311,8 +311,8 @@ impl Forest {
         self.lanes.recall();
     }
 
-    /// Makes steps of the pick until there is none, and answers how many. Each ticks once. If nothing was out, each optimistic
-    /// shadow has then ended and each other one stands at its point.
+    /// Makes steps of the pick as long as there is one, and tells how many they were. Each ticks once. Where no shadow was out, the
+    /// forest is idle afterwards: every optimistic shadow is at its end, and every waiting one at its point.
     pub fn run_idle<L: Ledger>(&mut self, steps: &mut Steps<L>) -> u64
         ensures made { result ≡ (run_idle_of self.old.numbers).0 }
         ensures next { self.new ≡ with_numbers (run_idle_of self.old.numbers).1 self.old }

@@ -61,7 +61,7 @@ loop-place-preserved c =
                 w.if-number-committed.true
                 (λ u is. cut_found c.args.lanes.now c.loop-place.lanes c.args.txns.now c.args.of c.loop-place.place before seen c.number-number.result c.number-committed.result next.0 c.loop-place.invariant.cut next.1
                 c.number-number.ensures c.number-committed.ensures w.state.result.now w.state-then-number-committed.result.now w.reads.result.now w.writes.result.now w.cut.result
-                w.state.ensures.state w.state-then-number-committed.ensures.state w.reads.ensures w.writes.ensures w.cut.ensures.cut u is ∙ w.in-None.is);
+                w.state.ensures.state w.state-then-number-committed.ensures.state w.reads.ensures w.writes.ensures.set w.cut.ensures.cut u is ∙ w.in-None.is);
             long = ap (λ s. length s.seats) w.lanes-is ∙ c.loop-place.invariant.long;
             items = ap (λ s. s.items) w.lanes-is ∙ c.loop-place.invariant.items;
             few = omega (arith, ap (λ v. length v.items) w.resumed-is, c.loop-place.invariant.few);
@@ -80,7 +80,7 @@ loop-place-preserved c =
                 w.if-number-committed.true
                 (λ u is. cut_found c.args.lanes.now c.loop-place.lanes c.args.txns.now c.args.of c.loop-place.place before seen c.number-number.result c.number-committed.result next.0 c.loop-place.invariant.cut next.1
                 c.number-number.ensures c.number-committed.ensures w.state.result.now w.state-then-number-committed.result.now w.reads.result.now w.writes.result.now w.cut.result
-                w.state.ensures.state w.state-then-number-committed.ensures.state w.reads.ensures w.writes.ensures w.cut.ensures.cut u is ∙ w.in-Some.is)
+                w.state.ensures.state w.state-then-number-committed.ensures.state w.reads.ensures w.writes.ensures.set w.cut.ensures.cut u is ∙ w.in-Some.is)
                 w.code_of.ensures
                 (rw w.lanes-is w.state-in-Some.ensures.state);
             long =

@@ -23,40 +23,40 @@ free_next txns s ws o free first = let lane : ltb (length s.seats) s.lanes ≡ t
 
 pub deadline_of-requires-clause-least : goal.deadline_of-requires-clause-least
 deadline_of-requires-clause-least c =
-    (carried c.args.txns.now c.args.lanes.now c.args.waiting.now c.in-Some.txn (sym (c.first-next.ensures ∙ first_queued c.args.txns.now c.args.waiting.now c.requires.queued) ∙ c.in-Some.is) c.requires.carried).least
+    (carried c.args.txns.now c.args.lanes.now c.args.waiting.now c.in-Some.txn (sym (c.first-next.ensures.value ∙ first_queued c.args.txns.now c.args.waiting.now c.requires.queued) ∙ c.in-Some.is) c.requires.carried).least
 
 pub deadline_of-requires-clause-most : goal.deadline_of-requires-clause-most
 deadline_of-requires-clause-most c =
-    (carried c.args.txns.now c.args.lanes.now c.args.waiting.now c.in-Some.txn (sym (c.first-next.ensures ∙ first_queued c.args.txns.now c.args.waiting.now c.requires.queued) ∙ c.in-Some.is) c.requires.carried).most
+    (carried c.args.txns.now c.args.lanes.now c.args.waiting.now c.in-Some.txn (sym (c.first-next.ensures.value ∙ first_queued c.args.txns.now c.args.waiting.now c.requires.queued) ∙ c.in-Some.is) c.requires.carried).most
 
 pub code_of-requires-clause-least : goal.code_of-requires-clause-least
 code_of-requires-clause-least c =
-    (carried c.args.txns.now c.args.lanes.now c.args.waiting.now c.in-Some.txn (sym (c.first-next.ensures ∙ first_queued c.args.txns.now c.args.waiting.now c.requires.queued) ∙ c.in-Some.is) c.requires.carried).least
+    (carried c.args.txns.now c.args.lanes.now c.args.waiting.now c.in-Some.txn (sym (c.first-next.ensures.value ∙ first_queued c.args.txns.now c.args.waiting.now c.requires.queued) ∙ c.in-Some.is) c.requires.carried).least
 
 pub code_of-requires-clause-most : goal.code_of-requires-clause-most
 code_of-requires-clause-most c =
-    (carried c.args.txns.now c.args.lanes.now c.args.waiting.now c.in-Some.txn (sym (c.first-next.ensures ∙ first_queued c.args.txns.now c.args.waiting.now c.requires.queued) ∙ c.in-Some.is) c.requires.carried).most
+    (carried c.args.txns.now c.args.lanes.now c.args.waiting.now c.in-Some.txn (sym (c.first-next.ensures.value ∙ first_queued c.args.txns.now c.args.waiting.now c.requires.queued) ∙ c.in-Some.is) c.requires.carried).most
 
 pub start-requires-clause-new : goal.start-requires-clause-new
 start-requires-clause-new c =
     first_found (λ (t : ℕ). find_seat c.args.lanes.now.seats t ≡ None) (is_prior_at c.args.txns.now) (numbers_waiting c.args.waiting.now) c.in-Some.txn
-    (sym (c.first-next.ensures ∙ first_queued c.args.txns.now c.args.waiting.now c.requires.queued) ∙ c.in-Some.is) c.requires.apart
+    (sym (c.first-next.ensures.value ∙ first_queued c.args.txns.now c.args.waiting.now c.requires.queued) ∙ c.in-Some.is) c.requires.apart
 
 pub start-requires-clause-carries : goal.start-requires-clause-carries
 start-requires-clause-carries c =
     subst (λ ns. Carries ns c.args.lanes.now.items) (sym c.code_of.ensures)
-    (carried c.args.txns.now c.args.lanes.now c.args.waiting.now c.in-Some.txn (sym (c.first-next.ensures ∙ first_queued c.args.txns.now c.args.waiting.now c.requires.queued) ∙ c.in-Some.is) c.requires.carried).carries
+    (carried c.args.txns.now c.args.lanes.now c.args.waiting.now c.in-Some.txn (sym (c.first-next.ensures.value ∙ first_queued c.args.txns.now c.args.waiting.now c.requires.queued) ∙ c.in-Some.is) c.requires.carried).carries
 
 pub returns-in-None-clause-next : goal.returns-in-None-clause-next
 returns-in-None-clause-next c =
     let free : length c.args.lanes.now.seats < c.args.lanes.now.lanes = omega (arith, c.if-len-lanes.false, c.len.ensures.len, c.len.ensures.seats.few, c.lanes.ensures) in
-    free_next c.args.txns.now c.args.lanes.now c.args.waiting.now c.first-next.result free (c.first-next.ensures ∙ first_queued c.args.txns.now c.args.waiting.now c.requires.queued)
+    free_next c.args.txns.now c.args.lanes.now c.args.waiting.now c.first-next.result free (c.first-next.ensures.value ∙ first_queued c.args.txns.now c.args.waiting.now c.requires.queued)
 
 pub returns-in-Some-clause-next : goal.returns-in-Some-clause-next
 returns-in-Some-clause-next c =
     let free : length c.args.lanes.now.seats < c.args.lanes.now.lanes = omega (arith, c.if-len-lanes.false, c.len.ensures.len, c.len.ensures.seats.few, c.lanes.ensures) in
     free_next c.args.txns.now c.args.lanes.now c.args.waiting.now (Some c.in-Some.txn) free
-    (sym c.in-Some.is ∙ (c.first-next.ensures ∙ first_queued c.args.txns.now c.args.waiting.now c.requires.queued))
+    (sym c.in-Some.is ∙ (c.first-next.ensures.value ∙ first_queued c.args.txns.now c.args.waiting.now c.requires.queued))
 
 pub returns-in-Some-clause-waiting : goal.returns-in-Some-clause-waiting
 returns-in-Some-clause-waiting c =

@@ -50,7 +50,7 @@ lay_over-requires c =
     let e = ending (goal.at.lay_over-requires c).After-self in
     let i = c.self.inside in
     whole_room (program_of i.journal.entries e.seat.number) i.tables e.seat.optimistic e.whole
-    ∙ ap length (sym (c.writes.ensures ∙ ap (λ (st : Held). st.writes) (state_is (goal.at.lay_over-requires c).After-state-state e)))
+    ∙ ap length (sym (c.writes.ensures.set ∙ ap (λ (st : Held). st.writes) (state_is (goal.at.lay_over-requires c).After-state-state e)))
 
 pub cut_others-requires-clause-of : goal.cut_others-requires-clause-of
 cut_others-requires-clause-of c = (ending (goal.at.cut_others-requires-clause-of c).After-self).below
@@ -89,7 +89,7 @@ cut_step c e st =
       | then-is_done w ↦
           done_step i.journal i.tables i.txns.items (numbers_waiting i.waiting) i.lanes c.args.place c.args.txn c.self.invariant.0 e c.if-is_done.self-inside.tables c.if-is_done.self-inside.lanes (map resumed_pair c.if-is_done.self-inside.resumed.items)
           (said ∙ w.if-is_done.true)
-          (ap (λ (x : Inside). x.tables) w.self-inside-is ∙ w.lay_over.ensures ∙ ap (λ ws. over ws i.tables) (w.writes.ensures ∙ ap (λ (x : Held). x.writes) st))
+          (ap (λ (x : Inside). x.tables) w.self-inside-is ∙ w.lay_over.ensures ∙ ap (λ ws. over ws i.tables) (w.writes.ensures.set ∙ ap (λ (x : Held). x.writes) st))
           (ap (λ (x : Inside). x.lanes) w.self-inside-is ∙ w.cut_others.ensures.seats e.seat e.there ∙ ap (λ kept. record i.lanes { seats = map (seat_after i.lanes.items kept e.seat) i.lanes.seats }) w.deref.ensures.value)
           (ap (λ (x : Inside). map resumed_pair x.resumed.items) w.self-inside-is ∙ w.cut_others.ensures.resumed e.seat e.there
           ∙ ap (λ xs. map resumed_pair xs ++ filter_map (taken_back i.lanes.items w.deref.result.now e.seat) i.lanes.seats) c.clear.ensures.items
