@@ -12,7 +12,7 @@ mod status;
 #[cfg(test)]
 mod tests;
 
-pub use laws::always_sound;
+pub use laws::{always_sound, drain_lines};
 pub use run::script;
 pub use setup::{Setup, SetupRefusal};
 pub use state::ScriptState;

@@ -314,20 +314,29 @@ impl ScriptState {
     }
 }
 
-// The command of a dialect that a line spells; `journal` is none yet.
+// The command of a dialect that a line spells; a script has no `journal` yet.
 fn read_line(dialect: Dialect, line: &[u8]) -> Result<Command, u8>
     requires { length line.now ≤ 8192 }
     ensures command { result ≡ spelled dialect line.now }
     ensures ranges { IfOk result (IsInRange (length line.now)) }
 {
-    if is_unbuilt(line) {
+    if is_unbuilt(dialect, line) {
         return Err(12);
     }
     read_command(dialect, line)
 }
 
-fn is_unbuilt(line: &[u8]) -> bool
-    ensures { result ≡ spec.is_unbuilt (words_of line.now) }
+fn is_unbuilt(dialect: Dialect, line: &[u8]) -> bool
+    ensures { result ≡ spec.is_unbuilt dialect (words_of line.now) }
+{
+    match dialect {
+        Dialect::Script => names_journal(line),
+        Dialect::Batch | Dialect::Audit | Dialect::Session => false,
+    }
+}
+
+fn names_journal(line: &[u8]) -> bool
+    ensures { result ≡ spec.names_journal (words_of line.now) }
 {
     match next_word(line, 0) {
         Some(word) => &line[word.from..word.to] == b"journal".as_slice(),
