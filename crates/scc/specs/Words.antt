@@ -1,4 +1,4 @@
--- The words of a command line, and the exit status of each end.
+-- The words of a command line.
 use Rattle.std.specs.Prelude.{◌≡◌, ℕ, ◌≤◌, List, [], ◌∷◌, length, codes, Some}
 use Rattle.scc_text.specs.Number.{natural_of}
 use Rattle.scc.specs.declared.words.Mode.{Mode}

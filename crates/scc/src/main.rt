@@ -23,9 +23,12 @@ const USAGE: &str =
     "usage: scc script K LANES | batch K LANES WORKERS | audit | gen SEED COUNT | soak SEED COUNT K WORKERS | serve K LANES WORKERS ADDR";
 
 fn main(rt: HostRuntime) -> ExitCode {
-    // Words that are no text name no mode.
     let words = match command_words(&rt) {
         Ok(words) => words,
+        Err(error) if error.kind() == io::ErrorKind::OutOfMemory => {
+            return ExitCode::from(exit_code(Status::OutOfMemory));
+        }
+        // words that are no text name no mode
         Err(_) => Vec::new(rt.alloc()),
     };
     let mut source = ReadSource::new(rt.stdin());

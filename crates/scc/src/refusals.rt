@@ -1,10 +1,10 @@
 // What lines are answered that are refused, or that stand where they have no effect.
-use crate::tests::gives;
+use crate::tests::{gives, put_zeros};
 use std::test::Fail;
 
 #[test]
 fn before_the_first_transaction(rt: HostRuntime) -> Result<(), Fail> {
-    let rows: [(&[u8], &[u8]); 6] = [
+    let rows: [(&[u8], &[u8]); 5] = [
         (
             b"step 1\nstep 1 2\ncommit 1\nwithdraw 1\nshow 1\nrun\ndrain\ntable a 1\n",
             b"refuse 25\nrefuse 25\nrefuse 25\nrefuse 25\nrefuse 25\nrun 0\ndrain 0\ntable a 1\nfinal a 0\nend 0\n",
@@ -25,14 +25,20 @@ fn before_the_first_transaction(rt: HostRuntime) -> Result<(), Fail> {
             b"begin 1 { }\ntable min 4\ntable a 1\nput b 0 1\ntable a 0\n",
             b"begin 1 started\nrefuse 21\nrefuse 21\nrefuse 21\nrefuse 17\nend 0\n",
         ),
-        (
-            b"table a 1024\ntable b 1\ntable a 1\ntable min 1\n",
-            b"table a 1024\nrefuse 20\nrefuse 19\nrefuse 18\nfinal a 0 0 0 0 0 0 0 0 0 0 0 0 0 0 0 0 0 0 0 0 0 0 0 0 0 0 0 0 0 0 0 0 0 0 0 0 0 0 0 0 0 0 0 0 0 0 0 0 0 0 0 0 0 0 0 0 0 0 0 0 0 0 0 0 0 0 0 0 0 0 0 0 0 0 0 0 0 0 0 0 0 0 0 0 0 0 0 0 0 0 0 0 0 0 0 0 0 0 0 0 0 0 0 0 0 0 0 0 0 0 0 0 0 0 0 0 0 0 0 0 0 0 0 0 0 0 0 0 0 0 0 0 0 0 0 0 0 0 0 0 0 0 0 0 0 0 0 0 0 0 0 0 0 0 0 0 0 0 0 0 0 0 0 0 0 0 0 0 0 0 0 0 0 0 0 0 0 0 0 0 0 0 0 0 0 0 0 0 0 0 0 0 0 0 0 0 0 0 0 0 0 0 0 0 0 0 0 0 0 0 0 0 0 0 0 0 0 0 0 0 0 0 0 0 0 0 0 0 0 0 0 0 0 0 0 0 0 0 0 0 0 0 0 0 0 0 0 0 0 0 0 0 0 0 0 0 0 0 0 0 0 0 0 0 0 0 0 0 0 0 0 0 0 0 0 0 0 0 0 0 0 0 0 0 0 0 0 0 0 0 0 0 0 0 0 0 0 0 0 0 0 0 0 0 0 0 0 0 0 0 0 0 0 0 0 0 0 0 0 0 0 0 0 0 0 0 0 0 0 0 0 0 0 0 0 0 0 0 0 0 0 0 0 0 0 0 0 0 0 0 0 0 0 0 0 0 0 0 0 0 0 0 0 0 0 0 0 0 0 0 0 0 0 0 0 0 0 0 0 0 0 0 0 0 0 0 0 0 0 0 0 0 0 0 0 0 0 0 0 0 0 0 0 0 0 0 0 0 0 0 0 0 0 0 0 0 0 0 0 0 0 0 0 0 0 0 0 0 0 0 0 0 0 0 0 0 0 0 0 0 0 0 0 0 0 0 0 0 0 0 0 0 0 0 0 0 0 0 0 0 0 0 0 0 0 0 0 0 0 0 0 0 0 0 0 0 0 0 0 0 0 0 0 0 0 0 0 0 0 0 0 0 0 0 0 0 0 0 0 0 0 0 0 0 0 0 0 0 0 0 0 0 0 0 0 0 0 0 0 0 0 0 0 0 0 0 0 0 0 0 0 0 0 0 0 0 0 0 0 0 0 0 0 0 0 0 0 0 0 0 0 0 0 0 0 0 0 0 0 0 0 0 0 0 0 0 0 0 0 0 0 0 0 0 0 0 0 0 0 0 0 0 0 0 0 0 0 0 0 0 0 0 0 0 0 0 0 0 0 0 0 0 0 0 0 0 0 0 0 0 0 0 0 0 0 0 0 0 0 0 0 0 0 0 0 0 0 0 0 0 0 0 0 0 0 0 0 0 0 0 0 0 0 0 0 0 0 0 0 0 0 0 0 0 0 0 0 0 0 0 0 0 0 0 0 0 0 0 0 0 0 0 0 0 0 0 0 0 0 0 0 0 0 0 0 0 0 0 0 0 0 0 0 0 0 0 0 0 0 0 0 0 0 0 0 0 0 0 0 0 0 0 0 0 0 0 0 0 0 0 0 0 0 0 0 0 0 0 0 0 0 0 0 0 0 0 0 0 0 0 0 0 0 0 0 0 0 0 0 0 0 0 0 0 0 0 0 0 0 0 0 0 0 0 0 0 0 0 0 0 0 0 0 0 0 0 0 0 0 0 0 0 0 0 0 0 0 0 0 0 0 0 0 0 0 0 0 0 0 0 0 0 0 0 0 0 0 0 0 0 0 0 0 0 0 0 0 0 0 0 0 0 0 0 0 0 0 0 0 0 0 0 0 0 0 0 0 0 0 0 0 0 0 0 0 0 0 0 0 0 0 0 0 0 0 0 0 0 0 0 0 0 0 0 0 0 0 0 0 0 0 0 0 0 0 0 0 0 0 0 0 0 0 0 0 0 0 0 0 0 0 0 0 0 0 0 0 0 0 0 0 0 0 0 0 0 0 0 0 0 0 0 0 0 0 0 0 0 0 0 0 0 0 0 0 0 0 0 0 0 0 0 0 0 0 0 0 0 0 0 0 0 0 0 0 0 0 0 0 0 0 0 0 0 0 0 0 0 0 0 0 0 0 0 0 0 0 0 0 0 0 0 0 0 0 0 0 0 0 0 0 0 0 0 0 0 0 0 0 0 0 0 0 0 0 0 0 0 0 0 0 0 0 0 0 0 0 0 0 0 0 0 0 0 0 0 0 0 0 0 0 0 0 0\nend 0\n",
-        ),
     ];
     for (input, written) in rows {
         assert!(rt; gives(&rt, &["script", "1", "1"], input, written)?);
     }
+    Ok(())
+}
+
+#[test]
+fn tables_have_1024_items(rt: HostRuntime) -> Result<(), Fail> {
+    let mut written = b"table a 1024\nrefuse 20\nrefuse 19\nrefuse 18\nfinal a".to_vec(rt.alloc())?;
+    put_zeros(&mut written, 1024)?;
+    written.extend_from_slice(b"\nend 0\n")?;
+    let input = b"table a 1024\ntable b 1\ntable a 1\ntable min 1\n";
+    assert!(rt; gives(&rt, &["script", "1", "1"], input, &written)?);
     Ok(())
 }
 
@@ -68,7 +74,7 @@ fn transactions_wait_for_lanes(rt: HostRuntime) -> Result<(), Fail> {
 
 #[test]
 fn lines_are_refused_alone(rt: HostRuntime) -> Result<(), Fail> {
-    let rows: [(&[u8], &[u8]); 6] = [
+    let rows: [(&[u8], &[u8]); 8] = [
         (b"\n \t\r\n# a\n#a", b"end 0\n"),
         (
             b"journal\njournal x\nreport\nresult 1\nquit\ntable a\x0b 1\n\x0btable a 1\n",
@@ -90,6 +96,13 @@ fn lines_are_refused_alone(rt: HostRuntime) -> Result<(), Fail> {
             b"table a 02\nput a 00 -0007\nbegin 007 { emit 03; }\nstep 0001\nrun\ncommit 01\nput a 0 1\ndump b\n",
             b"table a 2\nput a 0 -7\nbegin 1 started\nstep 1 o at 1\nrun 0\ncommit 1 done 3\nrefuse 21\nrefuse 22\nfinal a -7 0\nend 1\n",
         ),
+        // No table has a name that isn't allowed.
+        (
+            b"table a 1\nput min 0 1\nput r1 0 1\ndump loop\ndump a!\ndump abcdefghijklmnopq\n",
+            b"table a 1\nrefuse 22\nrefuse 22\nrefuse 22\nrefuse 22\nrefuse 22\nfinal a 0\nend 0\n",
+        ),
+        // Form feed and 0 are no blanks.
+        (b"table a\0 4\n\x0crun\n", b"refuse 18\nrefuse 12\nend 0\n"),
     ];
     for (input, written) in rows {
         assert!(rt; gives(&rt, &["script", "1", "1"], input, written)?);

@@ -122,3 +122,43 @@ fn the_earliest_points_have_shadows(rt: HostRuntime) -> Result<(), Fail> {
     }
     Ok(())
 }
+
+#[test]
+fn shadows_follow_what_others_wrote(rt: HostRuntime) -> Result<(), Fail> {
+    let rows: [([&str; 3], &[u8], &[u8]); 5] = [
+        // Whom a commit took back is told by number, though 4 runs in the lane that was 1's.
+        (
+            ["script", "1", "3"],
+            b"table a 1\nbegin 10 { }\nbegin 20 { r0 = a[0]; emit r0; }\nbegin 15 { a[0] = 5; }\nbegin 40 { r0 = a[0]; emit r0; }\ncommit 1\nstep 2\nstep 4\ndrain\n",
+            b"table a 1\nbegin 1 started\nbegin 2 started\nbegin 3 started\nbegin 4 waiting\ncommit 1 done\nstart 4\nstep 2 o at 1\nstep 4 o at 1\ncommit 3 done\nresume 2 0\nresume 4 0\ncommit 2 done 5\ncommit 4 done 5\ndrain 3\nfinal a 5\nend 4\n",
+        ),
+        // A fault behind a write changes no table, so nobody is taken back.
+        (
+            ["script", "2", "2"],
+            b"table a 4\nbegin 10 { a[0] = 4; r0 = 1 / 0; }\nbegin 20 { r0 = a[0]; emit r0; }\nstep 2\nstep 1\nstep 1\nshow 2\ncommit 1\nshow 2\nrun\ncommit 2\n",
+            b"table a 4\nbegin 1 started\nbegin 2 started\nstep 2 o at 1\nstep 1 o at 1\nstep 1 o at 2\nshadow 2 o at 1 runnable\nshadow 2 1 at 0 point 0 blocked\ncommit 1 fault zero\nshadow 2 o at 1 runnable\nrun 1\ncommit 2 done 0\nfinal a 0 0 0 0\nend 2\n",
+        ),
+        // A shadow that has gone beyond a point which is lowered is made anew.
+        (
+            ["script", "2", "2"],
+            b"table a 4\nbegin 10 { r0 = a[0]; r1 = a[1]; emit r1; }\nbegin 20 { a[1] = 7; a[0] = 9; }\nstep 1\nstep 1\nstep 2\nstep 1 2\nshow 1\nstep 2\nshow 1\n",
+            b"table a 4\nbegin 1 started\nbegin 2 started\nstep 1 o at 1\nstep 1 o at 2\nstep 2 o at 1\nstep 1 2 at 1\nshadow 1 o at 2 runnable\nshadow 1 2 at 1 point 1 blocked\nstep 2 o at 2\nshadow 1 o at 2 runnable\nshadow 1 2 at 0 point 0 blocked\nfinal a 0 0 0 0\nend 0\n",
+        ),
+        // The shadow that waited for who failed is what the next one is copied from.
+        (
+            ["script", "2", "3"],
+            b"table a 4\nbegin 10 { r5 = 3; r0 = a[0]; r1 = a[1]; emit r1; }\nbegin 20 { a[0] = 9; fail 1; }\nbegin 30 { a[1] = 7; }\nstep 3\nstep 1\nstep 1\nstep 1\nstep 2\nstep 1 2\nshow 1\nstep 2\ncommit 2\nshow 1\n",
+            b"table a 4\nbegin 1 started\nbegin 2 started\nbegin 3 started\nstep 3 o at 1\nstep 1 o at 1\nstep 1 o at 2\nstep 1 o at 3\nstep 2 o at 1\nstep 1 2 at 1\nshadow 1 o at 3 runnable r5=3\nshadow 1 2 at 1 point 1 blocked r5=3\nstep 2 o at 2\ncommit 2 failed 1\nshadow 1 o at 3 runnable r5=3\nshadow 1 3 at 1 point 2 runnable r5=3\nfinal a 0 0 0 0\nend 1\n",
+        ),
+        // Nobody waits for itself, for nobody, or for who has read nothing of it.
+        (
+            ["script", "2", "2"],
+            b"table a 4\nbegin 10 { r0 = a[0]; emit r0; }\nbegin 20 { a[0] = 5; }\nstep 1\nstep 2\nstep 1 1\nstep 1 0\nstep 1 2\nstep 2 1\n",
+            b"table a 4\nbegin 1 started\nbegin 2 started\nstep 1 o at 1\nstep 2 o at 1\nrefuse 29\nrefuse 29\nrefuse 28\nrefuse 29\nfinal a 0 0 0 0\nend 0\n",
+        ),
+    ];
+    for (words, input, written) in rows {
+        assert!(rt; gives(&rt, &words, input, written)?);
+    }
+    Ok(())
+}

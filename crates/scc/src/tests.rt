@@ -1,6 +1,6 @@
 // Runs over memory: what was written, and how each ended.
 use crate::top::top_uncounted;
-use scc_ports::{MemSink, MemSource, OpenGate};
+use scc_ports::{Failed, MemSink, MemSource, OpenGate, Source};
 use scc_script::Status;
 use scc_text::put_count;
 use std::alloc::{AllocError, Global};
@@ -47,6 +47,26 @@ fn words_of(alloc: Global, words: &[&str]) -> Result<Vec<String>, AllocError> {
     Ok(given)
 }
 
+// How the words end over this source and sink.
+fn status_over<R: Threads + Wait + AllocGlobal, S: Source>(
+    rt: &R,
+    words: &[&str],
+    source: &mut S,
+    sink: &mut MemSink,
+) -> Result<Status, AllocError> {
+    let alloc = rt.alloc();
+    let words = words_of(alloc, words)?;
+    Ok(top_uncounted::<Brand, _, _, _, _>(
+        Blank::new(1),
+        rt,
+        alloc,
+        &words,
+        source,
+        sink,
+        &OpenGate,
+    ))
+}
+
 // Whether the words and the case's input end as the case says, with what it says written.
 fn ends_so<R: Threads + Wait + AllocGlobal>(
     rt: &R,
@@ -61,16 +81,7 @@ fn ends_so<R: Threads + Wait + AllocGlobal>(
         case.source_fails.to_vec(alloc)?,
     );
     let mut sink = MemSink::with_room(alloc, 100_000, most, case.sink_fails.to_vec(alloc)?)?;
-    let words = words_of(alloc, words)?;
-    let status = top_uncounted::<Brand, _, _, _, _>(
-        Blank::new(1),
-        rt,
-        alloc,
-        &words,
-        &mut source,
-        &mut sink,
-        &OpenGate,
-    );
+    let status = status_over(rt, words, &mut source, &mut sink)?;
     Ok(status == case.status && sink.into_bytes().as_slice() == case.written)
 }
 
@@ -170,6 +181,14 @@ fn a_reply_is_one_piece(rt: HostRuntime) -> Result<(), Fail> {
     Ok(())
 }
 
+// Appends the values of so many items that are 0.
+pub fn put_zeros(out: &mut Vec<u8>, items: u32) -> Result<(), AllocError> {
+    for _ in 0..items {
+        out.extend_from_slice(b" 0")?;
+    }
+    Ok(())
+}
+
 // What is read and what is written where a shadow with a thousand written items is shown.
 fn long_show(alloc: Global) -> Result<(Vec<u8>, Vec<u8>), AllocError> {
     let input =
@@ -184,9 +203,7 @@ fn long_show(alloc: Global) -> Result<(Vec<u8>, Vec<u8>), AllocError> {
         written.extend_from_slice(b"]=-9223372036854775808")?;
     }
     written.extend_from_slice(b"\nfinal abcdefghijklmnop")?;
-    for _ in 0..1024 {
-        written.extend_from_slice(b" 0")?;
-    }
+    put_zeros(&mut written, 1024)?;
     written.extend_from_slice(b"\nend 0\n")?;
     Ok((input.to_vec(alloc)?, written))
 }
@@ -196,6 +213,84 @@ fn a_shown_line_may_be_long(rt: HostRuntime) -> Result<(), Fail> {
     let (input, written) = long_show(rt.alloc())?;
     assert!(rt; written.len() > 40_000);
     assert!(rt; gives(&rt, &SCRIPT, &input, &written)?);
+    Ok(())
+}
+
+// Appends a line: a text, a number, and a text.
+fn put_told(out: &mut Vec<u8>, front: &[u8], number: u64, back: &[u8]) -> Result<(), AllocError> {
+    out.extend_from_slice(front)?;
+    put_count(out, number)?;
+    out.extend_from_slice(back)
+}
+
+// What is read and what is written where 63 transactions have read what the 64th writes and commits.
+fn many_taken_back(alloc: Global) -> Result<(Vec<u8>, Vec<u8>), AllocError> {
+    let mut input = b"table a 1\n".to_vec(alloc)?;
+    let mut written = b"table a 1\n".to_vec(alloc)?;
+    for txn in 1..65u64 {
+        let program: &[u8] = if txn < 64 {
+            b"begin 2 { r0 = a[0]; emit r0; }\n"
+        } else {
+            b"begin 1 { a[0] = 5; }\n"
+        };
+        input.extend_from_slice(program)?;
+        put_told(&mut written, b"begin ", txn, b" started\n")?;
+    }
+    for txn in 1..65u64 {
+        put_told(&mut input, b"step ", txn, b"\n")?;
+        put_told(&mut written, b"step ", txn, b" o at 1\n")?;
+    }
+    input.extend_from_slice(b"commit 64\n")?;
+    written.extend_from_slice(b"commit 64 done\n")?;
+    for txn in 1..64u64 {
+        put_told(&mut written, b"resume ", txn, b" 0\n")?;
+    }
+    written.extend_from_slice(b"final a 5\nend 1\n")?;
+    Ok((input, written))
+}
+
+#[test]
+fn a_commit_takes_63_back(rt: HostRuntime) -> Result<(), Fail> {
+    let (input, written) = many_taken_back(rt.alloc())?;
+    assert!(rt; gives(&rt, &["script", "8", "64"], &input, &written)?);
+    Ok(())
+}
+
+// The bytes before those without an end.
+const FRONT: &[u8] = b"dump a\n";
+
+// These bytes one by one, and then zero bytes without an end.
+#[derive(Drop)]
+struct Endless {
+    given: usize,
+}
+
+impl Source for Endless {
+    ghost use Rattle.std.specs.Prelude.{None};
+
+    ghost left = { λ _. None };
+
+    ghost faults = { λ _. 0 };
+
+    fn read(&mut self, into: &mut [u8]) -> Result<usize, Failed> {
+        if self.given < FRONT.len() {
+            into[0] = FRONT[self.given];
+            self.given += 1;
+            return Ok(1);
+        }
+        into.fill(0);
+        Ok(into.len())
+    }
+}
+
+#[test]
+fn the_limit_ends_a_run_behind_the_whole_lines(rt: HostRuntime) -> Result<(), Fail> {
+    let alloc = rt.alloc();
+    let mut source = Endless { given: 0 };
+    let mut sink = MemSink::with_room(alloc, 1_000, 1_000, Vec::new(alloc))?;
+    let status = status_over(&rt, &SCRIPT, &mut source, &mut sink)?;
+    assert!(rt; status == Status::InputLimit);
+    assert_eq!(rt; sink.into_bytes().as_slice(), b"refuse 22\n".as_slice());
     Ok(())
 }
 
