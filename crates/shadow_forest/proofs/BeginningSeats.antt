@@ -47,12 +47,12 @@ unwritten : (n : ℕ) (rs : List Read) → point rs (replicate n None) ≡ None
 unwritten n [] = refl
 unwritten n (x ∷ rs) = rw (own-none n x.1) (unwritten n rs)
 
-no_conflict : (t : ℕ) (nodes : List Node) (items : ℕ) (r : Seat) → conflict_between None r (fresh_seat t nodes items) ≡ None
+pub no_conflict : (t : ℕ) (nodes : List Node) (items : ℕ) (r : Seat) → conflict_between None r (fresh_seat t nodes items) ≡ None
 no_conflict t nodes items r =
     cond_both (t == r.number) None (conflict_at t (point r.optimistic.state.log.reads (replicate items None))) (λ o. o ≡ None)
     (λ e. refl) (λ e. ap (conflict_at t) (unwritten items r.optimistic.state.log.reads))
 
-nothing_wanted : (k t : ℕ) (nodes : List Node) (items : ℕ) (seats : List Seat) → wanted_among k None seats (fresh_seat t nodes items) ≡ []
+pub nothing_wanted : (k t : ℕ) (nodes : List Node) (items : ℕ) (seats : List Seat) → wanted_among k None seats (fresh_seat t nodes items) ≡ []
 nothing_wanted k t nodes items seats = ap (λ pairs. wanted_of pairs k) (none seats) ∙ take-nil (k - 1)
   where
     none : (us : List Seat) → filter_map (conflict_between None (fresh_seat t nodes items)) us ≡ []

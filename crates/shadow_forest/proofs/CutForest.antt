@@ -209,7 +209,7 @@ pub record AreCut (f : Forest) (u : Started) (e : Tables) (g : Seat → Seat) (t
   pub others : AllByRecursion (λ (x : Seat). x.number ≢ u.number → IsCutTo f u e x (g x) (told x)) seats
   pub self : (x : Seat) → x.number ≡ u.number → told x ≡ None
 
-cut_number : (nodes : List Node) (items : ℕ) (o : Option ℕ) (r : Seat) → (cut_seat nodes items o r).number ≡ r.number
+pub cut_number : (nodes : List Node) (items : ℕ) (o : Option ℕ) (r : Seat) → (cut_seat nodes items o r).number ≡ r.number
 cut_number nodes items None r = refl
 cut_number nodes items (Some c) r = promoted_number nodes items c r (successor (placed_of (started_of r)) c)
 

@@ -1,4 +1,5 @@
 pub mod Accepting
+pub mod Around
 pub mod Beginning
 pub mod BeginningEntry
 pub mod BeginningQueue
@@ -9,9 +10,11 @@ pub mod CutForest
 pub mod Cutting
 pub mod Drains
 pub mod Elements
+pub mod EndedSeats
 pub mod Ending
 pub mod Finishing
 pub mod Firsts
+pub mod Fronts
 pub mod Idling
 pub mod Keeping
 pub mod Leaving
@@ -38,3 +41,4 @@ pub mod Starting
 pub mod StepWants
 pub mod Stepping
 pub mod Wanting
+pub mod WroteLess

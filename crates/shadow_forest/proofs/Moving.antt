@@ -37,7 +37,7 @@ guard_behind : (u limit : ℕ) (ws : List Waiter) (o : Slot) → o.state.positio
 guard_behind u limit [] o h all = h
 guard_behind u limit (w ∷ ws) o h all = cond_both {A = Slot} (w.guard == u) w.slot (guard_slot u ws o) (λ s. s.state.position ≤ limit) (λ e. all.0) (λ e. guard_behind u limit ws o h all.1)
 
-role_behind : (role : Role) (r : Seat) → IsBehind r → (role_slot role r).state.position ≤ r.optimistic.state.position
+pub role_behind : (role : Role) (r : Seat) → IsBehind r → (role_slot role r).state.position ≤ r.optimistic.state.position
 role_behind Optimistic r h = (omega arith)
 role_behind (Guard u) r h = guard_behind u r.optimistic.state.position r.waiters r.optimistic (omega arith) h.each
 

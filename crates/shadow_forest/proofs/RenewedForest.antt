@@ -13,7 +13,7 @@ use Rattle.forest_model.proofs.RestLaws.{IsApart}
 use Rattle.shadow_lanes.specs.Seats.{Seat, Seated, conflicts_of, shadow_of, started_of}
 use Rattle.shadow_forest.specs.declared.txn.Txn.{Txn}
 use Rattle.shadow_forest.specs.Answers.{IsWithin}
-use Rattle.shadow_forest.specs.Parts.{nodes_at, wanted_among, renewed, renewed_among, all_renewed}
+use Rattle.shadow_forest.specs.Parts.{nodes_at, wanted_among, renewed, renewed_among}
 use Rattle.shadow_forest.specs.Ready.{IsCarried, AreCarried}
 use Rattle.shadow_forest.specs.Kept.{forest_of, SeatStands, AllStand, AreTxns, IsForest, owed}
 use Rattle.shadow_forest.proofs.Begun.{IsBegun, live_is_begun, is_carried}
@@ -27,6 +27,10 @@ pub record IsOld (before : List Started) (f : Forest) (r : Seat) : Type 0 where
   pub apart : IsApart (conflicts_of r)
   pub fits : AllZip StandsFor (map shadow_of r.waiters) (conflicts_of r)
   pub found : settled_shadows (find_started before r.number) (wanted f (started_of r)) ≡ settled_shadows (Some (started_of r)) (wanted f (started_of r))
+
+-- each with the shadows that it wants now
+abbrev pub all_renewed : ℕ → ℕ → List Txn → List Seat → List Seat
+all_renewed k items txns seats = map (renewed_among k items txns seats) seats
 
 -- what the fields of a forest keep before all are renewed
 pub record IsUnsettled (journal : Recorded) (d : Tables) (kept : List Txn) (queue : List ℕ) (s : Seated) (before : List Started) : Type 0 where

@@ -7,7 +7,7 @@ use Rattle.forest_model.specs.Point.{Conflict, wanted_of}
 use Rattle.shadow_state.specs.Bank.{at_place}
 use Rattle.shadow_lanes.specs.Seats.{Seat, Seated, conflicts_of, settled_seat}
 use Rattle.shadow_forest.specs.declared.txn.Txn.{Txn}
-use Rattle.shadow_forest.specs.Parts.{conflict_between, wanted_among, same_conflicts, renewed, nodes_at, renewed_among, has_read, reader_renewed}
+use Rattle.shadow_forest.specs.Parts.{conflict_between, wanted_among, same_conflicts, renewed, nodes_at, renewed_among, one_around, has_read, reader_renewed}
 use Rattle.shadow_forest.specs.Ready.{IsCarried, AreCarried}
 use Rattle.shadow_forest.proofs.Places.{option_map-some, all-at, at_place-agree, at_place-still, so_far, slice_get-so_far, so_far_more-at, so_far_more-still, filter_map-so_far}
 use Rattle.shadow_forest.proofs.SeatPlaces.{with_seats}
@@ -84,9 +84,9 @@ module _ (start : Seated) (txns : List Txn) (test : Seat → Bool) (f : Seat →
       let here : slice_get start.seats i ≡ Some r = sym (slice_get-so_far f i start.seats) ∙ ap (λ (s : Seated). slice_get s.seats i) (sym h) ∙ there in
       subst (λ (s : Seated). IsCarried s.items txns r.number) (sym h) (all-at (λ (x : Seat). IsCarried start.items txns x.number) start.seats i r here all)
 
--- the first i have what they want
-abbrev pub renewed_so_far : List Txn → ℕ → Seated → Seated
-renewed_so_far txns i s = with_seats s (so_far (renewed_among s.most s.items txns s.seats) i s.seats)
+-- of the first i those that u's end touches, and those that wait for one that it touches, have what they want
+abbrev pub around_so_far : List Txn → ℕ → List (ℕ × ℕ) → ℕ → Seated → Seated
+around_so_far txns u back i s = with_seats s (so_far (one_around s.most s.items txns u back s.seats) i s.seats)
 
 -- of the first i those that have read the item have
 abbrev pub readers_so_far : List Txn → ℕ → ℕ → ℕ → Seated → Seated

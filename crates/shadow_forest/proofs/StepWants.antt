@@ -20,7 +20,7 @@ use Rattle.shadow_forest.specs.Parts.{point_with}
 less_small : (n m : ℕ) → n < m → min m n ≡ n
 less_small n m h = omega (arith, h)
 
-point_cons : (x : Read) (ws : Writes) (rs : List Read) → point (x ∷ rs) ws ≡ (if is_changed ws x then Some (less_or (point rs ws) x.0) else point rs ws)
+pub point_cons : (x : Read) (ws : Writes) (rs : List Read) → point (x ∷ rs) ws ≡ (if is_changed ws x then Some (less_or (point rs ws) x.0) else point rs ws)
 point_cons x ws rs = either (cases_Bool (is_changed ws x)) (λ e. rw e refl) (λ e. rw e refl)
 
 with_less : (item position : ℕ) (ws : Writes) (o : Option ℕ) (n : ℕ) → n < position → less_or (point_with (Some item) position ws o) n ≡ less_or o n
@@ -43,7 +43,7 @@ point_push item position v ws (x ∷ rs) h =
 
 -- What each kind of step changes.
 
-one_step : (p : Program) (d : Tables) (n : ℕ) → Changes (kind_of (after p d n)) d n (after p d n) (after p d (suc n))
+pub one_step : (p : Program) (d : Tables) (n : ℕ) → Changes (kind_of (after p d n)) d n (after p d n) (after p d (suc n))
 one_step p d n = let e : n + 1 ≡ suc n = omega arith in subst (λ m. Changes (kind_of (after p d n)) d n (after p d n) (after p d m)) e (after_changes p d n)
 
 pub local_step : (p : Program) (d : Tables) (n : ℕ) → kind_of (after p d n) ≡ Local → (reads p d (suc n) ≡ reads p d n) × (writes p d (suc n) ≡ writes p d n)

@@ -1,5 +1,6 @@
 -- What the forest's code makes of the started transactions and their states.
 use Rattle.std.specs.Prelude.{ℕ, zero, suc, ◌-◌, Bool, true, false, not, ◌&&◌, ◌||◌, ◌==◌, nat_lt, if◌then◌else◌, List, [], ◌∷◌, map, filter, filter_map, flat_map, slice_get, is_some, Option, None, Some}
+use Rattle.std.specs.List.{list_any}
 use Rattle.txn_runs.specs.Run.{Writes, own, logged}
 use Rattle.txn_code.specs.declared.node.Node.{Node}
 use Rattle.block_rule.specs.declared.role.Role.{Role}
@@ -69,9 +70,21 @@ deadline_at txns t = deadline_in (slice_get txns (t - 1))
 abbrev pub renewed_among : ℕ → ℕ → List Txn → List Seat → Seat → Seat
 renewed_among k items txns seats r = renewed (nodes_at txns r.number) items (wanted_among k None seats r) r
 
--- each with the shadows that it wants now
-abbrev pub all_renewed : ℕ → ℕ → List Txn → List Seat → List Seat
-all_renewed k items txns seats = map (renewed_among k items txns seats) seats
+-- t is u, which ended, or one of those that it took back
+abbrev pub is_touched : ℕ → List (ℕ × ℕ) → ℕ → Bool
+is_touched u back t = list_any (λ (x : ℕ × ℕ). x.0 == t) back || t == u
+
+-- r is touched, or waits for one that is
+abbrev pub is_around : ℕ → List (ℕ × ℕ) → Seat → Bool
+is_around u back r = is_touched u back r.number || list_any (λ (w : Conflict). is_touched u back w.0) (conflicts_of r)
+
+-- r after u's end: with the shadows that it wants among these, if it is touched, or waits for one that is
+abbrev pub one_around : ℕ → ℕ → List Txn → ℕ → List (ℕ × ℕ) → List Seat → Seat → Seat
+one_around k items txns u back seats r = if is_around u back r then renewed_among k items txns seats r else r
+
+-- all after u's end
+abbrev pub around_renewed : ℕ → ℕ → List Txn → ℕ → List (ℕ × ℕ) → List Seat → List Seat
+around_renewed k items txns u back seats = map (one_around k items txns u back seats) seats
 
 -- r has read the item of the tables
 abbrev pub has_read : ℕ → Seat → Bool

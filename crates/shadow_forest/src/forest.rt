@@ -24,7 +24,7 @@ use crate::answers::{
 use crate::committing::{cut_others, start_waiting};
 use crate::picking::{pick, role_at};
 use crate::priority::first_ended;
-use crate::settling::{renew, renew_all, renew_readers, wanted_at};
+use crate::settling::{renew, renew_around, renew_readers, wanted_at};
 use crate::txn::{Txn, code_of, deadline_of};
 use block_rule::{Role, Standing, status};
 use forest_model::Did;
@@ -499,7 +499,7 @@ impl Forest {
             .push_reserved(Entry::Committed { txn, outcome });
         self.lanes.remove(txn);
         self.starts = start_waiting(&mut self.lanes, &mut self.waiting, &self.txns);
-        renew_all(&mut self.lanes, &self.txns);
+        renew_around(&mut self.lanes, &self.txns, txn, &self.resumed);
     }
 
     // Withdraws a live transaction.
@@ -513,7 +513,7 @@ impl Forest {
         self.lanes.remove(txn);
         self.waiting.remove(txn, deadline_of(&self.txns, txn));
         self.starts = start_waiting(&mut self.lanes, &mut self.waiting, &self.txns);
-        renew_all(&mut self.lanes, &self.txns);
+        renew_around(&mut self.lanes, &self.txns, txn, &self.resumed);
     }
 }
 

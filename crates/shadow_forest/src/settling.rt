@@ -1,11 +1,15 @@
 // Conflicts, and the shadows that they ask for.
-ghost use Rattle.std.specs.Prelude.{◌≡◌, ◌<◌, ◌≤◌, ◌&&◌, ◌==◌, not, suc, None, Some, length, slice_get, filter_map};
+ghost use Rattle.std.specs.Prelude.{◌≡◌, ◌<◌, ◌≤◌, ◌&&◌, ◌==◌, not, suc, None, Some, length, slice_get, map, filter_map};
+ghost use Rattle.std.specs.List.{list_any};
+ghost use Rattle.forest_model.specs.Point.{Conflict};
 ghost use Rattle.txn_interp.specs.State.{Carries};
 ghost use Rattle.shadow_state.specs.Bank.{at_place};
 ghost use Rattle.shadow_lanes.specs.Seats.{Seat, AreSeats};
-ghost use Rattle.shadow_forest.specs.Parts.{conflict_between, wanted_among, same_conflicts, renewed, all_renewed, readers_renewed, has_read, nodes_at};
+ghost use Rattle.shadow_forest.specs.Parts.{conflict_between, wanted_among, same_conflicts, renewed, around_renewed, is_touched as is_touched_of, is_around as is_around_of, readers_renewed, has_read, nodes_at};
+ghost use Rattle.shadow_forest.specs.Answers.{resumed_pair};
 ghost use Rattle.shadow_forest.specs.Ready.{AreCarried, IsCarried};
 
+use crate::answers::Resumed;
 use crate::txn::{Txn, code_of};
 use access_sets::WriteSet;
 use arrayvec::ArrayVec;
@@ -109,14 +113,49 @@ fn are_same(some: &[(u32, u32)], other: &[(u32, u32)]) -> bool
     true
 }
 
-/// Each transaction has the shadows that it wants now.
-pub(crate) fn renew_all(lanes: &mut Lanes, txns: &[Txn])
+/// After a transaction's end, which took these back, each of those and each that waits for one of them or for it has the shadows
+/// that it wants now. The others want what they wanted before.
+pub(crate) fn renew_around(lanes: &mut Lanes, txns: &[Txn], ended: u32, back: &[Resumed])
     requires { AreCarried lanes.old.items txns.now lanes.old.seats }
-    ensures { lanes.new ≡ record lanes.old { seats = all_renewed lanes.old.most lanes.old.items txns.now lanes.old.seats } }
+    ensures { lanes.new ≡ record lanes.old { seats = around_renewed lanes.old.most lanes.old.items txns.now ended (map resumed_pair back.now) lanes.old.seats } }
 {
     for place in 0..lanes.len() {
-        renew_at(lanes, txns, place);
+        if is_around(lanes, place, ended, back) {
+            renew_at(lanes, txns, place);
+        }
     }
+}
+
+// Whether the transaction at a place is touched, or waits for one that is.
+fn is_around(lanes: &Lanes, place: u32, ended: u32, back: &[Resumed]) -> bool
+    requires { place < length lanes.now.seats }
+    ensures { (r : Seat) → slice_get lanes.now.seats place ≡ Some r → result ≡ is_around_of ended (map resumed_pair back.now) r }
+{
+    is_touched(lanes.number(place), ended, back)
+        || waits_for_touched(lanes.conflicts(place), ended, back)
+}
+
+fn waits_for_touched(conflicts: &[(u32, u32)], ended: u32, back: &[Resumed]) -> bool
+    ensures { result ≡ list_any (λ (w : Conflict). is_touched_of ended (map resumed_pair back.now) w.0) conflicts.now }
+{
+    for i in 0..conflicts.len() {
+        if is_touched(conflicts[i].0, ended, back) {
+            return true;
+        }
+    }
+    false
+}
+
+// Whether this is the one that ended, or one of those that it took back.
+fn is_touched(number: u32, ended: u32, back: &[Resumed]) -> bool
+    ensures { result ≡ is_touched_of ended (map resumed_pair back.now) number }
+{
+    for i in 0..back.len() {
+        if back[i].txn == number {
+            return true;
+        }
+    }
+    number == ended
 }
 
 /// After a transaction's write of an item each other one that has read it has the shadows that it wants now. The others want what

@@ -8,9 +8,11 @@ use Rattle.forest_model.specs.Events.{gone, withdrawn}
 use Rattle.shadow_lanes.specs.Seats.{Seated, seats_without, started_of}
 use Rattle.shadow_forest.specs.View.{View, withdraw_view}
 use Rattle.shadow_forest.specs.Answers.{resumed_pair}
-use Rattle.shadow_forest.specs.Parts.{deadline_at, next_of, seats_with_some, all_renewed}
+use Rattle.shadow_forest.specs.Parts.{deadline_at, next_of, seats_with_some, around_renewed}
 use Rattle.shadow_forest.specs.Kept.{numbers_waiting, AreQueued, forest_of}
-use Rattle.shadow_forest.proofs.RenewedForest.{unsettled_carried}
+use Rattle.shadow_forest.proofs.RenewedForest.{map_same, unsettled_carried}
+use Rattle.shadow_forest.proofs.Around.{IsAfterEnd, around_is_all}
+use Rattle.shadow_forest.proofs.EndedSeats.{noted_seats, same_each}
 use Rattle.shadow_forest.proofs.Starting.{IsUnstarted, IsFilled, queue_carried, queue_apart, next_is, filled_keeps}
 use Rattle.shadow_forest.proofs.Refilling.{IsRefilled, refilled_keeps, refilled_forest, refilled_lanes}
 use Rattle.journal_core.proofs.Legal.{begun-live}
@@ -19,7 +21,7 @@ use Rattle.shadow_forest.proofs.Queue.{numbers-less, queued-less}
 use Rattle.shadow_forest.proofs.BeginningEntry.{is_pushed}
 use Rattle.shadow_forest.proofs.Leaving.{left_keeps, left_forest, withdraw_view_is}
 use Rattle.shadow_forest.proofs.forest.Forest.leave.Goals as goal
-use Rattle.shadow_forest.proofs.forest.Forest.leave.Goals.{After-deref-2, After-deref-3}
+use Rattle.shadow_forest.proofs.forest.Forest.leave.Goals.{After-deref-2, After-deref-3, After-renew_around}
 
 -- the queue without the one that leaves
 retained : (c : After-deref-2) → numbers_waiting c.remove-2.new.self ≡ filter (λ u. not (u == c.args.txn)) (numbers_waiting c.self.inside.waiting)
@@ -78,15 +80,49 @@ filled c = record {
   queue_is = c.start_waiting-self-inside.ensures.waiting;
 }
 
-pub renew_all-requires : goal.renew_all-requires
-renew_all-requires c =
+pub renew_around-requires : goal.renew_around-requires
+renew_around-requires c =
     let i = c.self.inside in
     let j = c.push_reserved.new.self in
     let before = map started_of i.lanes.seats in
     let w = c.start_waiting-self-inside in
     rw c.deref-3.ensures.value
     (unsettled_carried j i.tables i.txns.items (numbers_waiting w.new.waiting) w.new.lanes before
-    (filled_keeps j i.tables i.txns.items (numbers_waiting c.remove-2.new.self) c.remove.new.self before w.result (numbers_waiting w.new.waiting) w.new.lanes (unstarted (goal.at.renew_all-requires c).After-deref-2) (filled c)))
+    (filled_keeps j i.tables i.txns.items (numbers_waiting c.remove-2.new.self) c.remove.new.self before w.result (numbers_waiting w.new.waiting) w.new.lanes (unstarted (goal.at.renew_around-requires c).After-deref-2) (filled (goal.at.renew_around-requires c).After-deref-3)))
+
+-- nobody was taken back
+none_back : (c : After-renew_around) → map resumed_pair c.clear.new.self.items ≡ []
+none_back c = ap (map resumed_pair) c.clear.ensures.items
+
+after : (c : After-renew_around) → IsFilled c.self.inside.txns.items (numbers_waiting c.remove-2.new.self) c.remove.new.self c.start_waiting-self-inside.result (numbers_waiting c.start_waiting-self-inside.new.waiting) c.start_waiting-self-inside.new.lanes
+    → IsAfterEnd c.args.txn (map resumed_pair c.clear.new.self.items) c.self.inside.txns.items c.self.inside.lanes c.start_waiting-self-inside.new.lanes
+after c fill =
+    let i = c.self.inside in
+    let w = c.start_waiting-self-inside in
+    record {
+      change = λ x. x;
+      each = same_each c.args.txn (map resumed_pair c.clear.new.self.items) i.lanes.most i.lanes.seats (noted_seats i.journal i.tables i.txns.items (numbers_waiting i.waiting) i.lanes c.self.invariant.0);
+      who = w.result;
+      seats_are =
+          fill.seats_are
+          ∙ ap (λ (x : Seated). record x { seats = seats_with_some i.txns.items x.items w.result x.seats }) c.remove.ensures
+          ∙ ap (λ seats. record i.lanes { seats = seats_with_some i.txns.items i.lanes.items w.result (seats_without c.args.txn seats) }) (sym (map_same i.lanes.seats));
+    }
+
+-- and all were renewed
+refilled : (c : After-renew_around) → IsFilled c.self.inside.txns.items (numbers_waiting c.remove-2.new.self) c.remove.new.self c.start_waiting-self-inside.result (numbers_waiting c.start_waiting-self-inside.new.waiting) c.start_waiting-self-inside.new.lanes
+    → IsRefilled c.self.inside.txns.items (numbers_waiting c.remove-2.new.self) c.remove.new.self c.start_waiting-self-inside.result (numbers_waiting c.start_waiting-self-inside.new.waiting) c.start_waiting-self-inside.new.lanes c.renew_around.new.lanes
+refilled c fill =
+    let i = c.self.inside in
+    let lanes = c.start_waiting-self-inside.new.lanes in
+    record {
+      filled = fill;
+      renewed_are =
+          c.renew_around.ensures
+          ∙ ap (λ kept. record lanes { seats = around_renewed lanes.most lanes.items kept c.args.txn (map resumed_pair c.deref-4.result.now) lanes.seats }) c.deref-3.ensures.value
+          ∙ ap (λ back. record lanes { seats = around_renewed lanes.most lanes.items i.txns.items c.args.txn (map resumed_pair back) lanes.seats }) c.deref-4.ensures.value
+          ∙ ap (λ seats. record lanes { seats = seats }) (around_is_all c.args.txn (map resumed_pair c.clear.new.self.items) i.txns.items i.lanes lanes (after c fill));
+    }
 
 pub invariant_of-self : goal.invariant_of-self
 invariant_of-self c =
@@ -94,17 +130,12 @@ invariant_of-self c =
     let j = c.push_reserved.new.self in
     let before = map started_of i.lanes.seats in
     let w = c.start_waiting-self-inside in
-    let re : IsRefilled i.txns.items (numbers_waiting c.remove-2.new.self) c.remove.new.self w.result (numbers_waiting w.new.waiting) w.new.lanes c.renew_all.new.lanes =
-    record {
-      filled = filled (goal.at.invariant_of-self c).After-deref-3;
-      renewed_are = c.renew_all.ensures ∙ ap (λ kept. record w.new.lanes { seats = all_renewed w.new.lanes.most w.new.lanes.items kept w.new.lanes.seats }) c.deref-3.ensures.value;
-    }
-    in
+    let re = refilled c (filled (goal.at.invariant_of-self c).After-deref-3) in
     let u = unstarted (goal.at.invariant_of-self c).After-deref-2 in
-    let lanes : c.renew_all.new.lanes.lanes ≡ i.lanes.lanes =
-    refilled_lanes j i.tables i.txns.items (numbers_waiting c.remove-2.new.self) c.remove.new.self before w.result (numbers_waiting w.new.waiting) w.new.lanes c.renew_all.new.lanes u re ∙ ap (λ (x : Seated). x.lanes) c.remove.ensures
+    let lanes : c.renew_around.new.lanes.lanes ≡ i.lanes.lanes =
+    refilled_lanes j i.tables i.txns.items (numbers_waiting c.remove-2.new.self) c.remove.new.self before w.result (numbers_waiting w.new.waiting) w.new.lanes c.renew_around.new.lanes u re ∙ ap (λ (x : Seated). x.lanes) c.remove.ensures
     in (
-      refilled_keeps j i.tables i.txns.items (numbers_waiting c.remove-2.new.self) c.remove.new.self before w.result (numbers_waiting w.new.waiting) w.new.lanes c.renew_all.new.lanes u re,
+      refilled_keeps j i.tables i.txns.items (numbers_waiting c.remove-2.new.self) c.remove.new.self before w.result (numbers_waiting w.new.waiting) w.new.lanes c.renew_around.new.lanes u re,
       rw (lanes, c.clear.ensures.capacity) c.self.invariant.1,
       subst (λ xs. AreQueued xs w.new.waiting) c.deref-2.ensures.value w.ensures.queued,
     )
@@ -118,12 +149,7 @@ returns c =
     let before = map started_of i.lanes.seats in
     let w = c.start_waiting-self-inside in
     let fill = filled (goal.at.returns c).After-deref-3 in
-    let re : IsRefilled i.txns.items (numbers_waiting c.remove-2.new.self) c.remove.new.self w.result (numbers_waiting w.new.waiting) w.new.lanes c.renew_all.new.lanes =
-    record {
-      filled = fill;
-      renewed_are = c.renew_all.ensures ∙ ap (λ kept. record w.new.lanes { seats = all_renewed w.new.lanes.most w.new.lanes.items kept w.new.lanes.seats }) c.deref-3.ensures.value;
-    }
-    in
+    let re = refilled c fill in
     let a = (goal.at.returns c).After-deref-2 in
     let u = unstarted a in
     let gone_is : forest_of j i.tables c.remove.new.self ≡ gone f t =
@@ -131,11 +157,11 @@ returns c =
     ∙ ap (λ x. forest_of x i.tables (record i.lanes { seats = seats_without t i.lanes.seats })) (is_pushed i.journal j (Withdrawn t) c.push_reserved.ensures.opening c.push_reserved.ensures.entries)
     ∙ left_forest i.journal i.tables i.txns.items (numbers_waiting i.waiting) i.lanes t j.spare c.self.invariant.0 (live_inside a) (open_inside a) c.push_reserved.ensures.room
     in
-    let now : forest_of j i.tables c.renew_all.new.lanes ≡ withdrawn f t =
-    refilled_forest j i.tables i.txns.items (numbers_waiting c.remove-2.new.self) c.remove.new.self before w.result (numbers_waiting w.new.waiting) w.new.lanes c.renew_all.new.lanes u re ∙ ap (λ g. settle before (start_waiting g)) gone_is
+    let now : forest_of j i.tables c.renew_around.new.lanes ≡ withdrawn f t =
+    refilled_forest j i.tables i.txns.items (numbers_waiting c.remove-2.new.self) c.remove.new.self before w.result (numbers_waiting w.new.waiting) w.new.lanes c.renew_around.new.lanes u re ∙ ap (λ g. settle before (start_waiting g)) gone_is
     in
     let who : w.result ≡ next_to_start (gone f t) = fill.next ∙ next_is j i.tables i.txns.items (numbers_waiting c.remove-2.new.self) c.remove.new.self before u ∙ ap next_to_start gone_is in
-    let told : map resumed_pair c.clear.new.self.items ≡ [] = ap (map resumed_pair) c.clear.ensures.items in
+    let told : map resumed_pair c.clear.new.self.items ≡ [] = none_back c in
     let view : withdraw_view c.args.self.now t ≡ record { numbers = withdrawn f t; resumed = []; starts = next_to_start (gone f t) } =
     withdraw_view_is c.args.self.now t c.requires.live c.requires.open ∙ ap (λ (v : View). record { numbers = withdrawn v.numbers t; resumed = []; starts = next_to_start (gone v.numbers t) }) (sym c.self.view_is)
     in
