@@ -1,4 +1,6 @@
 //! Shadows as the rules see them: what they are for, and whether they may make a step.
+//!
+//! The rules stand in docs/RULES.md, what is proved in docs/PROMISES.md.
 #![tactic(auto)]
 
 mod role;

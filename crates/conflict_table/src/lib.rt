@@ -1,4 +1,6 @@
 //! Where a reader conflicts with a writer.
+//!
+//! The rules stand in docs/RULES.md, what is proved in docs/PROMISES.md.
 #![tactic(auto)]
 
 ghost use Rattle.std.specs.Prelude.{◌≡◌, ◌↔◌};

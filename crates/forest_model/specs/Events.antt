@@ -1,4 +1,4 @@
--- The events that the journal records, and the steps. A refused event changes nothing.
+-- The events that the journal records, and the steps. Where one is refused, the forest stays as it was.
 use Rattle.std.specs.Prelude.{ℕ, suc, ◌+◌, false, ◌==◌, nat_lt, if◌then◌else◌, List, [], ◌∷◌, ◌++◌, Option, Some, None, Result, Ok, Err, map, filter_map, length}
 use Rattle.txn_runs.specs.Serial.{effect_of, outcome_of, over}
 use Rattle.txn_runs.specs.declared.program.Program.{Program}

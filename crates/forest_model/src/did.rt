@@ -7,5 +7,6 @@ pub enum Did {
     Committed { txn: u32 },
     /// It made one step of this shadow of the transaction.
     Stepped { txn: u32, role: Role },
+    /// It had nothing to do.
     Nothing,
 }

@@ -1,4 +1,6 @@
 //! The rules of the forest in numbers, and their laws.
+//!
+//! The rules stand in docs/RULES.md, what is proved in docs/PROMISES.md.
 #![tactic(auto)]
 
 mod did;

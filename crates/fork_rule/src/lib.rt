@@ -1,4 +1,6 @@
 //! Where the state of a shadow comes from.
+//!
+//! The rules stand in docs/RULES.md, what is proved in docs/PROMISES.md.
 #![tactic(auto)]
 
 ghost use Rattle.std.specs.Prelude.{◌≡◌, ◌<◌, ◌↔◌, [], ◌∷◌, ◌++◌, option_to_list};

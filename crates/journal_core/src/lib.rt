@@ -1,4 +1,6 @@
 //! The journal of a forest: what began, was committed or withdrawn, and in which order.
+//!
+//! What is proved stands in docs/PROMISES.md.
 #![tactic(auto)]
 
 mod entry;

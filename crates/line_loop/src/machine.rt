@@ -19,7 +19,8 @@ pub trait Machine {
     /// Its lines at the end of the input.
     ghost ending: { Self → List ℕ };
 
-    /// Answers a line, and appends the reply.
+    /// Answers a line, and appends the reply. After want of memory more or less of it was appended, and the machine is not to be used
+    /// further.
     fn answer<L: Ledger>(
         &mut self,
         line: &[u8],
@@ -32,13 +33,13 @@ pub trait Machine {
         ensures ticks { OnOk result (steps.new ≡ steps.old + ticks self.old line.now) }
         ensures most { (steps.old ≤ steps.new) × (steps.new ≤ steps.old + ticks self.old line.now) };
 
-    /// Answers a line that is too long.
+    /// Answers a line that is too long, which makes no step. After want of memory as `answer`.
     fn answer_too_long(&mut self, out: &mut Vec<u8>) -> Result<(), AllocError>
         ensures next { (line : List ℕ) → 8192 < length line → OnOk result (self.new ≡ next self.old line) }
         ensures reply { (line : List ℕ) → 8192 < length line → OnOk result (out.new.items ≡ out.old.items ++ reply self.old line) }
         ensures ticks { (line : List ℕ) → 8192 < length line → ticks self.old line ≡ 0 };
 
-    /// Appends the lines at the end of the input.
+    /// Appends the lines at the end of the input, or, after want of memory, more or less of them.
     fn finish(&self, out: &mut Vec<u8>) -> Result<(), AllocError>
         ensures { OnOk result (out.new.items ≡ out.old.items ++ ending self.now) };
 }

@@ -11,7 +11,9 @@ use std::alloc::Global;
 use std::sync::ledger::Ledger;
 use step_count::Steps;
 
-/// Answers each line of the source as it is read, and writes the final lines at its end.
+/// Answers each line of the source as it is read, and writes the final lines at its end: `Done`. `ReadFault` and `WriteFault` come
+/// only where that object's count of faults rose or stands at its last value, `InputLimit` exactly where byte 67,108,865 was taken,
+/// and `OutOfMemory` for want of memory.
 pub fn answer_lines<M: Machine, S: Source, K: Sink, L: Ledger>(
     alloc: Global,
     machine: &mut M,
@@ -23,7 +25,7 @@ pub fn answer_lines<M: Machine, S: Source, K: Sink, L: Ledger>(
     ensures ran { (read : List ℕ) × Ran (record { next = M.next; reply = M.reply; ticks = M.ticks; ending = M.ending }) machine.old result read (S.left source.old) (S.left source.new)
         (K.written sink.old) (K.written sink.new) steps.old steps.new }
 
-    // A fault comes only where its object has counted one.
+    // A fault is told only where the count of that object rose meanwhile, or can rise no more.
     ensures read_fault { result ≡ Ending.ReadFault → Rose (S.faults source.old) (S.faults source.new) }
     ensures write_fault { result ≡ Ending.WriteFault → Rose (K.faults sink.old) (K.faults sink.new) }
     ensures source_later { S.faults source.old ≤ S.faults source.new }

@@ -1,15 +1,28 @@
 // Copied executions set beside plain walks.
 use crate::Walk;
 use txn_interp::State;
+use txn_runs::{End, Outcome};
 
 /// Whether the state is where the walk is.
 pub fn is_same(state: &State, walk: &Walk) -> bool {
     state.position() == walk.made
         && state.ended() != walk.cut
+        && same_end(state, walk)
         && state.emits().as_slice() == walk.emits.as_slice()
         && same_registers(state, walk)
         && same_reads(state, walk)
         && same_writes(state, walk)
+}
+
+fn same_end(state: &State, walk: &Walk) -> bool {
+    if !state.ended() {
+        return walk.end == End::Going;
+    }
+    match state.outcome() {
+        Outcome::Done { .. } => walk.end == End::Going,
+        Outcome::Failed { code } => walk.end == End::Failed { code },
+        Outcome::Fault { kind } => walk.end == End::Fault { kind },
+    }
 }
 
 fn same_registers(state: &State, walk: &Walk) -> bool {

@@ -1,4 +1,6 @@
 //! Which shadow makes the next step.
+//!
+//! The rules stand in docs/RULES.md, what is proved in docs/PROMISES.md.
 #![tactic(auto)]
 
 ghost use Rattle.std.specs.Prelude.{◌≡◌, ◌↔◌, true, false, [], ◌∷◌, ◌++◌, List, option_map, option_to_list};

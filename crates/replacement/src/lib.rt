@@ -1,4 +1,6 @@
 //! Which guards a transaction keeps a shadow for.
+//!
+//! The rules stand in docs/RULES.md, what is proved in docs/PROMISES.md.
 #![tactic(auto)]
 
 ghost use Rattle.std.specs.Prelude.{◌≡◌, ◌≤◌, length, insert, take};

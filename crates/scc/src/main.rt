@@ -1,4 +1,6 @@
 //! A transaction server with speculative concurrency control, as a program over standard input and output.
+//!
+//! Its formats and limits stand in docs/FORMATS.md, what is proved in docs/PROMISES.md.
 #![tactic(auto)]
 
 #[cfg(test)]

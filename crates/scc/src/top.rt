@@ -14,7 +14,7 @@ use std::sync::ledger::{Blank, Ledger};
 use std::thread::Threads;
 use step_count::Steps;
 
-/// Does what the words ask for: all modes, those with threads among them. It returns where the threads' turns come.
+/// Does what the words ask for: all modes, those with threads among them. Its promises hold if it returns.
 /// For now `script` is the one mode.
 pub fn scc_top<R: Threads + Wait, S: Source, K: Sink, G: Gate + Sync, L: Ledger>(
     _rt: &R,
@@ -35,7 +35,7 @@ pub fn scc_top<R: Threads + Wait, S: Source, K: Sink, G: Gate + Sync, L: Ledger>
     ensures other_words { ((mode : Mode) → ¬ Spells (map string_bytes words.now) mode) → result ≡ Status.BadWords }
     ensures nothing { result ≡ Status.BadWords → (source.new ≡ source.old) × (sink.new ≡ sink.old) × (steps.new ≡ steps.old) }
 
-    // A fault comes only where its object has counted one.
+    // A fault is told only where the count of that object rose meanwhile, or can rise no more.
     ensures read_fault { result ≡ Status.ReadFault → Rose (S.faults source.old) (S.faults source.new) }
     ensures write_fault { result ≡ Status.WriteFault → Rose (K.faults sink.old) (K.faults sink.new) }
 
@@ -46,7 +46,8 @@ pub fn scc_top<R: Threads + Wait, S: Source, K: Sink, G: Gate + Sync, L: Ledger>
     scc_plain(alloc, words, source, sink, steps)
 }
 
-/// Does what the words ask for, where that needs no thread. It always returns.
+/// Does what the words ask for, where that needs no thread; today that is `script K LANES`. It always returns. `BadWords` exactly
+/// where the words name no mode, with nothing done; the other ends as `scc_script::script`'s.
 pub fn scc_plain<S: Source, K: Sink, L: Ledger>(
     alloc: Global,
     words: &[String],
@@ -71,7 +72,7 @@ pub fn scc_plain<S: Source, K: Sink, L: Ledger>(
     }
 }
 
-/// The exit status of an end.
+/// The exit status of an end: 0, or one from 2 to 8.
 pub fn exit_code(status: Status) -> u8
     ensures { result ≡ exit_code_of status }
 {

@@ -15,7 +15,8 @@ pub enum Mode {
 #[derive(Clone, Copy, Debug, PartialEq, Eq)]
 pub struct BadWords;
 
-/// The mode that the words name.
+/// The mode that the words name: `script`, K from 1 to 8 and LANES from 1 to 64, each of 1 to 10 digits. `BadWords` exactly where
+/// they name none.
 pub fn read_words(words: &[String]) -> Result<Mode, BadWords>
     ensures ok { IfOk result (λ mode. Spells (map string_bytes words.now) mode) }
     ensures err { OnErr result ((mode : Mode) → ¬ Spells (map string_bytes words.now) mode) }

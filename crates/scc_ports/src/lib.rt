@@ -1,4 +1,6 @@
-// Where bytes come from and where they go, and what happened where a call failed.
+//! Where bytes come from and where they go, and what happened where a call failed.
+//!
+//! What is proved stands in docs/PROMISES.md.
 #![tactic(auto)]
 
 mod adapters;

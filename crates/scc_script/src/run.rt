@@ -12,6 +12,8 @@ use step_count::Steps;
 
 /// Answers each line of the source as it is read, and writes the final lines at its end.
 /// A transaction has at most `k` shadows, 1 to 8, and at most `lanes` transactions are started at once, 1 to 64.
+/// `ReadFault` and `WriteFault` come only where that object's count of faults rose or stands at its last value, `InputLimit` exactly
+/// where byte 67,108,865 was taken, and `OutOfMemory` for want of memory.
 pub fn script<S: Source, K: Sink, L: Ledger>(
     alloc: Global,
     k: u32,
@@ -29,7 +31,7 @@ pub fn script<S: Source, K: Sink, L: Ledger>(
     ensures ran { (read : List ℕ) × ScriptRan k lanes result read (S.left source.old) (S.left source.new)
         (K.written sink.old) (K.written sink.new) steps.old steps.new }
 
-    // A fault comes only where its object has counted one.
+    // A fault is told only where the count of that object rose meanwhile, or can rise no more.
     ensures read_fault { result ≡ Status.ReadFault → Rose (S.faults source.old) (S.faults source.new) }
     ensures write_fault { result ≡ Status.WriteFault → Rose (K.faults sink.old) (K.faults sink.new) }
     ensures source_later { S.faults source.old ≤ S.faults source.new }

@@ -31,7 +31,8 @@ use std::sync::ledger::Ledger;
 use step_count::Steps;
 use txn_syntax::{Names, Program, ReadRefusal, read_program};
 
-/// A script under way: its tables as they were before the first transaction, and its forest from the first transaction on.
+/// A script under way: its tables as they were before the forest was opened, and its forest from the first accepted `begin` or
+/// `seal` on.
 #[derive(Drop)]
 pub struct ScriptState {
     alloc: Global,
@@ -59,7 +60,7 @@ impl Model for ScriptState {
 
 impl ScriptState {
     /// A script before its first line, for at most `k` shadows a transaction, 1 to 8, and at most `lanes` started transactions, 1
-    /// to 64.
+    /// to 64. Where memory runs out, `AllocError`.
     pub fn new(alloc: Global, k: u32, lanes: u32) -> Result<ScriptState, AllocError>
         requires least { 1 ≤ k }
         requires most { k ≤ 8 }
@@ -77,7 +78,8 @@ impl ScriptState {
         })
     }
 
-    /// Answers a line of a dialect: the reply is appended, and each step ticks.
+    /// Answers a line of at most 8,192 bytes of a dialect: the reply is appended, and each step ticks. After want of memory more or
+    /// less of the reply was appended, and the script is not to be used further.
     #[tactic(auto, unfolding(crate::specs::Text::answer))]
     pub fn answer_line<L: Ledger>(
         &mut self,
@@ -304,7 +306,7 @@ impl ScriptState {
         }
     }
 
-    /// Appends the lines at the end of the input.
+    /// Appends the lines at the end of the input, or, after want of memory, more or less of them.
     #[tactic(auto, unfolding(crate::specs::Text::end_lines))]
     pub fn put_end(&self, out: &mut Vec<u8>) -> Result<(), AllocError>
         ensures { OnOk result (out.new.items ≡ out.old.items ++ end_lines self.now) }

@@ -1,11 +1,10 @@
 -- Whom the end of a transaction doesn't touch, and who waits for nobody that it touches, wants what it wanted.
-use Rattle.std.proofs.Common.{◌≡◌, ℕ, ◌-◌, ◌≤◌, ◌==◌, Bool, true, false, not, List, [], ◌∷◌, map, filter_map, Option, Some, None, refl, ap, sym, subst, ◌∙◌, arith, inl, inr, true≢false, eq-eqb}
+use Rattle.std.proofs.Common.{◌≡◌, ℕ, ◌-◌, ◌≤◌, ◌==◌, Bool, true, false, not, List, [], ◌∷◌, map, filter_map, Option, Some, None, refl, ap, sym, subst, ◌∙◌, arith, inl, inr, true≢false}
 use Rattle.std.specs.Prelude.{if◌then◌else◌}
 use Rattle.std.specs.List.{AllByRecursion, list_any, cons_option}
 use Rattle.std.proofs.lemmas.Bool.{cases_Bool, or_parts}
 use Rattle.std.proofs.lemmas.Bool.Decides.{nat_tests}
 use Rattle.txn_runs.specs.Run.{Read, Writes}
-use Rattle.txn_code.specs.declared.node.Node.{Node}
 use Rattle.forest_model.specs.Choose.{less_or}
 use Rattle.forest_model.specs.Point.{Conflict, is_sooner, is_changed, point, wanted_of}
 use Rattle.forest_model.specs.Forest.{conflict_at}
@@ -13,9 +12,10 @@ use Rattle.forest_model.proofs.Lists.{either, all-map, all-filter, all-weaken, m
 use Rattle.forest_model.proofs.StartedLaws.{all-put, filter_map-put}
 use Rattle.shadow_lanes.specs.Seats.{Seat, Seated, conflicts_of, comes_before, fresh_seat, seats_with, seats_without}
 use Rattle.shadow_forest.specs.declared.txn.Txn.{Txn}
-use Rattle.shadow_forest.specs.Parts.{conflict_between, wanted_among, same_conflicts, nodes_at, renewed, renewed_among, is_touched, is_around, one_around, around_renewed, seats_with_some}
+use Rattle.shadow_forest.specs.Parts.{conflict_between, wanted_among, nodes_at, renewed_among, is_touched, is_around, renewed_if_around, around_renewed, seats_with_some}
 use Rattle.shadow_forest.proofs.StepWants.{point_cons}
 use Rattle.shadow_forest.proofs.BeginningSeats.{no_conflict, nothing_wanted}
+use Rattle.shadow_forest.proofs.Seating.{renewed_same}
 use Rattle.shadow_forest.proofs.RenewedForest.{all_renewed}
 use Rattle.shadow_forest.proofs.WroteLess.{WroteLess}
 use Rattle.shadow_forest.proofs.Fronts.{Eases, AreFree, front-eased}
@@ -84,13 +84,6 @@ free_of : (touched : ℕ → Bool) (ws : List Conflict) → list_any (λ (w : Co
 free_of touched [] h = tt
 free_of touched (w ∷ ws) h = let parts = or_parts (touched w.0) (list_any (λ (w : Conflict). touched w.0) ws) h in (parts.0, free_of touched ws parts.1)
 
-same_self : (ws : List Conflict) → same_conflicts ws ws ≡ true
-same_self [] = refl
-same_self (w ∷ ws) = rw (eq-eqb w.0 w.0 refl, eq-eqb w.1 w.1 refl, same_self ws) refl
-
-still_renewed : (nodes : List Node) (items : ℕ) (r : Seat) (ws : List Conflict) → ws ≡ conflicts_of r → renewed nodes items ws r ≡ r
-still_renewed nodes items r ws e = rw (e, same_self (conflicts_of r)) refl
-
 left-filtered : {Y : Type 0} (u : ℕ) (g : Seat → Seat) (h : Seat → Option Y) (xs : List Seat) → AllByRecursion (λ (x : Seat). (g x).number ≡ x.number) xs
     → filter_map h (seats_without u (map g xs)) ≡ filter_map (λ (x : Seat). if x.number == u then None else h (g x)) xs
 left-filtered u g h [] all = refl
@@ -149,12 +142,12 @@ module _ (u : ℕ) (back : List (ℕ × ℕ)) (k items : ℕ) (kept : List Txn) 
       let free : AreFree (is_touched u back) (conflicts_of (g x)) = free_of (is_touched u back) (conflicts_of (g x)) parts.1 in
       let noted : conflicts_of (g x) ≡ wanted_among k None seats (g x) = subst (λ (y : Seat). conflicts_of y ≡ wanted_among k None seats y) (sym same) h.noted in
       let wants : wanted_among k None (seats_with_some kept items o (seats_without u (map g seats))) (g x) ≡ conflicts_of (g x) = more_wanted o (g x) ∙ left_wanted (g x) noted free in
-      still_renewed (nodes_at kept (g x).number) items (g x) (wanted_among k None (seats_with_some kept items o (seats_without u (map g seats))) (g x)) wants
+      renewed_same (nodes_at kept (g x).number) items (wanted_among k None (seats_with_some kept items o (seats_without u (map g seats))) (g x)) (g x) (sym wants)
 
   fresh_still : (o : Option ℕ) (t : ℕ) → renewed_among k items kept (seats_with_some kept items o (seats_without u (map g seats))) (fresh_seat t (nodes_at kept t) items) ≡ fresh_seat t (nodes_at kept t) items
   fresh_still o t =
-      still_renewed (nodes_at kept t) items (fresh_seat t (nodes_at kept t) items) (wanted_among k None (seats_with_some kept items o (seats_without u (map g seats))) (fresh_seat t (nodes_at kept t) items))
-      (nothing_wanted k t (nodes_at kept t) items (seats_with_some kept items o (seats_without u (map g seats))))
+      renewed_same (nodes_at kept t) items (wanted_among k None (seats_with_some kept items o (seats_without u (map g seats))) (fresh_seat t (nodes_at kept t) items)) (fresh_seat t (nodes_at kept t) items)
+      (sym (nothing_wanted k t (nodes_at kept t) items (seats_with_some kept items o (seats_without u (map g seats)))))
 
   left_all : (o : Option ℕ) → AllByRecursion (λ (r : Seat). is_around u back r ≡ false → renewed_among k items kept (seats_with_some kept items o (seats_without u (map g seats))) r ≡ r) (seats_without u (map g seats))
   left_all o =
@@ -174,8 +167,8 @@ module _ (u : ℕ) (back : List (ℕ × ℕ)) (k items : ℕ) (kept : List Txn) 
       → around_renewed k items kept u back (seats_with_some kept items o (seats_without u (map g seats))) ≡ all_renewed k items kept (seats_with_some kept items o (seats_without u (map g seats)))
   around_all o =
       let seats' = seats_with_some kept items o (seats_without u (map g seats)) in
-      map-agree (one_around k items kept u back seats') (renewed_among k items kept seats') seats'
-      (all-weaken (λ (r : Seat). is_around u back r ≡ false → renewed_among k items kept seats' r ≡ r) (λ (r : Seat). one_around k items kept u back seats' r ≡ renewed_among k items kept seats' r)
+      map-agree (renewed_if_around k items kept u back seats') (renewed_among k items kept seats') seats'
+      (all-weaken (λ (r : Seat). is_around u back r ≡ false → renewed_among k items kept seats' r ≡ r) (λ (r : Seat). renewed_if_around k items kept u back seats' r ≡ renewed_among k items kept seats' r)
       (λ r still. either (cases_Bool (is_around u back r)) (λ e. rw e refl) (λ e. rw e (sym (still e)))) seats' (all_still o))
 
 -- after u's end, which changed the seats so and took these back, one may have started

@@ -138,6 +138,21 @@ within-numbers (suc n) v =
 pub drain-numbers : (v : View) → (drain_view v).1.numbers ≡ (drain v.numbers).1
 drain-numbers v = within-numbers (left (recall v.numbers)) (with_numbers (recall v.numbers) v)
 
+from-steps : (did : Did) (v : View) (g : Forest) (a : View → ℕ × View) (b : Forest → ℕ × Forest) → v.numbers ≡ g → ((w : View) → (a w).0 ≡ (b w.numbers).0) → (drain_view_from did v a).0 ≡ (drain_from did g b).0
+from-steps (Committed t) v g a b e each = each v ∙ ap (λ f. (b f).0) e
+from-steps (Stepped t role) v g a b e each = ap suc (each v ∙ ap (λ f. (b f).0) e)
+from-steps Nothing v g a b e each = refl
+
+within-steps : (n : ℕ) (v : View) → (drain_view_within n v).0 ≡ (drain_within n v.numbers).0
+within-steps zero v = refl
+within-steps (suc n) v =
+    from-steps (drain_step v.numbers).0 (drain_step_view v) (drain_step v.numbers).1 (drain_view_within n) (drain_within n)
+    (told-numbers v (drain_step v.numbers).0 (drain_step v.numbers).1) (within-steps n)
+
+-- and it has as many steps
+pub drain-count : (v : View) → (drain_view v).0 ≡ (drain v.numbers).0
+drain-count v = within-steps (left (recall v.numbers)) (with_numbers (recall v.numbers) v)
+
 -- The step that did this, of what is left.
 
 pub rest-nothing : (v : View) → IsSound v.numbers → (drain_step v.numbers).0 ≡ Nothing → rest_view v ≡ (0, drain_step_view v)

@@ -315,9 +315,6 @@ module _ (journal : Recorded) (d : Tables) (kept : List Txn) (queue : List ℕ) 
       subst (λ y. IsFin x y) (not_chosen x e) (stays_fin x old (others_want (read_step its_program d r.position item kind).1 x ne))))
       s.seats olds
     where
-      its_wants : List Conflict
-      its_wants = wanted_among s.most (Some item) s.seats h.a.seat
-
       chosen : (x : Seat) → x.number == t ≡ true → read_change nodes item x ≡ stepped_seat st (renewed nodes s.items (wanted_among s.most (Some item) s.seats h.a.seat) x)
       chosen x e = rw e refl
 

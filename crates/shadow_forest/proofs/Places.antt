@@ -31,14 +31,6 @@ take_more-at xs i x is = rw add-one (by_suc xs i x is)
     by_suc (y ∷ ys) zero x is = cc
     by_suc (y ∷ ys) (suc i) x is = ap (λ zs. y ∷ zs) (by_suc ys i x is)
 
-pub drop_more-at : {X : Type 0} (xs : List X) (i : ℕ) (x : X) → slice_get xs i ≡ Some x → drop i xs ≡ x ∷ drop (i + 1) xs
-drop_more-at xs i x is = rw add-one (by_suc xs i x is)
-  where
-    by_suc : {X : Type 0} (xs : List X) (i : ℕ) (x : X) → slice_get xs i ≡ Some x → drop i xs ≡ x ∷ drop (suc i) xs
-    by_suc [] i x is = cc
-    by_suc (y ∷ ys) zero x is = cc
-    by_suc (y ∷ ys) (suc i) x is = by_suc ys i x is
-
 pub filter_map_more-at : {X Y : Type 0} (h : X → Option Y) (xs : List X) (i : ℕ) (x : X) → slice_get xs i ≡ Some x
     → filter_map h (take (i + 1) xs) ≡ filter_map h (take i xs) ++ cons_option (h x) []
 filter_map_more-at h xs i x is = rw (take_more-at xs i x is) (filter_map-append h (take i xs) (x ∷ []))
@@ -109,9 +101,6 @@ all-at_place P (suc n) f (x ∷ xs) keeps all = (all.0, all-at_place P n f xs ke
 -- the first i are changed
 abbrev pub so_far : {X : Type 0} → (X → X) → ℕ → List X → List X
 so_far f i xs = map f (take i xs) ++ drop i xs
-
-pub so_far-none : {X : Type 0} (f : X → X) (xs : List X) → so_far f 0 xs ≡ xs
-so_far-none f xs = refl
 
 pub so_far-all : {X : Type 0} (f : X → X) (i : ℕ) (xs : List X) → length xs ≤ i → so_far f i xs ≡ map f xs
 so_far-all f zero [] le = refl

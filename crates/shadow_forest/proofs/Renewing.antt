@@ -7,7 +7,7 @@ use Rattle.forest_model.specs.Point.{Conflict, wanted_of}
 use Rattle.shadow_state.specs.Bank.{at_place}
 use Rattle.shadow_lanes.specs.Seats.{Seat, Seated, conflicts_of, settled_seat}
 use Rattle.shadow_forest.specs.declared.txn.Txn.{Txn}
-use Rattle.shadow_forest.specs.Parts.{conflict_between, wanted_among, same_conflicts, renewed, nodes_at, renewed_among, one_around, has_read, reader_renewed}
+use Rattle.shadow_forest.specs.Parts.{conflict_between, wanted_among, same_conflicts, renewed, nodes_at, renewed_among, renewed_if_around, has_read, reader_renewed}
 use Rattle.shadow_forest.specs.Ready.{IsCarried, AreCarried}
 use Rattle.shadow_forest.proofs.Places.{option_map-some, all-at, at_place-agree, at_place-still, so_far, slice_get-so_far, so_far_more-at, so_far_more-still, filter_map-so_far}
 use Rattle.shadow_forest.proofs.SeatPlaces.{with_seats}
@@ -86,7 +86,7 @@ module _ (start : Seated) (txns : List Txn) (test : Seat → Bool) (f : Seat →
 
 -- of the first i those that u's end touches, and those that wait for one that it touches, have what they want
 abbrev pub around_so_far : List Txn → ℕ → List (ℕ × ℕ) → ℕ → Seated → Seated
-around_so_far txns u back i s = with_seats s (so_far (one_around s.most s.items txns u back s.seats) i s.seats)
+around_so_far txns u back i s = with_seats s (so_far (renewed_if_around s.most s.items txns u back s.seats) i s.seats)
 
 -- of the first i those that have read the item have
 abbrev pub readers_so_far : List Txn → ℕ → ℕ → ℕ → Seated → Seated

@@ -222,15 +222,6 @@ module _ (journal : Recorded) (d : Tables) (kept : List Txn) (queue : List ℕ) 
         spare = let room : owed (length s.seats) (length queue) (is_sealed journal.entries) ≤ journal.spare = h.spare in rw length-put (omega (arith, less, room));
       }
 
-  -- all is kept but the shadows that are wanted
-  pub start_keeps : IsUnsettled journal d kept (still_waiting (next_of kept (length s.seats) s.lanes queue) queue)
-      (record s { seats = seats_with_some kept s.items (next_of kept (length s.seats) s.lanes queue) s.seats }) before
-  start_keeps = start_at (next_of kept (length s.seats) s.lanes queue) refl
-
-  -- and the forest in numbers is the one after the start
-  pub start_forest : forest_of journal d (record s { seats = seats_with_some kept s.items (next_of kept (length s.seats) s.lanes queue) s.seats }) ≡ start_waiting (forest_of journal d s)
-  start_forest = started_forest (next_of kept (length s.seats) s.lanes queue) ∙ ap (λ o. start_some o (forest_of journal d s)) next_is
-
 -- what the code makes of those that wait and of the seats: o starts
 pub record IsFilled (kept : List Txn) (queue : List ℕ) (s : Seated) (o : Option ℕ) (queue' : List ℕ) (s' : Seated) : Type 0 where
   pub next : o ≡ next_of kept (length s.seats) s.lanes queue

@@ -79,12 +79,12 @@ abbrev pub is_around : ℕ → List (ℕ × ℕ) → Seat → Bool
 is_around u back r = is_touched u back r.number || list_any (λ (w : Conflict). is_touched u back w.0) (conflicts_of r)
 
 -- r after u's end: with the shadows that it wants among these, if it is touched, or waits for one that is
-abbrev pub one_around : ℕ → ℕ → List Txn → ℕ → List (ℕ × ℕ) → List Seat → Seat → Seat
-one_around k items txns u back seats r = if is_around u back r then renewed_among k items txns seats r else r
+abbrev pub renewed_if_around : ℕ → ℕ → List Txn → ℕ → List (ℕ × ℕ) → List Seat → Seat → Seat
+renewed_if_around k items txns u back seats r = if is_around u back r then renewed_among k items txns seats r else r
 
 -- all after u's end
 abbrev pub around_renewed : ℕ → ℕ → List Txn → ℕ → List (ℕ × ℕ) → List Seat → List Seat
-around_renewed k items txns u back seats = map (one_around k items txns u back seats) seats
+around_renewed k items txns u back seats = map (renewed_if_around k items txns u back seats) seats
 
 -- r has read the item of the tables
 abbrev pub has_read : ℕ → Seat → Bool

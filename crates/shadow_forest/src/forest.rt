@@ -82,7 +82,7 @@ impl Model for Forest {
 
 impl Forest {
     /// A forest over these tables, in which nothing began, for at most `k` shadows a transaction, 1 to 8, and at most `lanes` started
-    /// transactions, 1 to 64. Takes the memory for all states.
+    /// transactions, 1 to 64. Takes the memory for all states; where that runs out, `AllocError`.
     pub fn open(alloc: Global, table: Table, k: u32, lanes: u32) -> Result<Forest, AllocError>
         requires least { 1 ≤ k }
         requires most { k ≤ 8 }
@@ -163,7 +163,7 @@ impl Forest {
         self.starts
     }
 
-    /// The started transaction at a place, from 0, in the order of numbers.
+    /// The started transaction at a place, from 0, in the order of numbers. `None` exactly where there are not so many.
     pub fn started_at(&self, place: u32) -> Option<u32>
         ensures { result ≡ option_map (λ (r : Started). r.number) (slice_get self.now.numbers.started place) }
     {
@@ -214,8 +214,8 @@ impl Forest {
     }
 
     /// Begins a transaction and answers its number: it is started where a lane is free, and waits else. Takes the memory for its
-    /// whole life. At most 20,000 begin; the program fits the tables, and the deadline is at most 1,000,000,000,000. A refusal
-    /// leaves all as it was; want of memory comes last.
+    /// whole life. The program fits the tables, and the deadline is at most 1,000,000,000,000. `Sealed` exactly where the journal is
+    /// sealed, else `TooMany` exactly where 20,000 began; `OutOfMemory` comes last. A refusal leaves all as it was.
     pub fn begin(&mut self, program: Program, deadline: u64) -> Result<u32, BeginRefusal>
         requires fits { reach program ≤ length self.old.numbers.tables }
         requires deadline { deadline ≤ 1000000000000 }
@@ -248,7 +248,8 @@ impl Forest {
     }
 
     /// One step of a shadow over the present tables, which takes its mark away. After one of an optimistic shadow each transaction
-    /// has the shadows that it wants then. It ticks once; a refused call changes nothing and does not tick.
+    /// has the shadows that it wants then. It ticks once. Refused, in this order, with `Unknown`, `NotStarted`, `NoShadow`, and `Ended`
+    /// or `Blocked`; then nothing changes, and it does not tick.
     pub fn step<L: Ledger>(&mut self, txn: u32, role: Role, steps: &mut Steps<L>) -> Stepped
         ensures answer { result ≡ step_answer (step_of self.old.numbers txn role) }
         ensures next { self.new ≡ with_numbers (after_step self.old.numbers (step_of self.old.numbers txn role)) self.old }
@@ -264,7 +265,8 @@ impl Forest {
         }
     }
 
-    /// Commits a transaction whose optimistic shadow has run to its end. Takes no memory and no step. A refused one changes nothing.
+    /// Commits a transaction whose optimistic shadow has run to its end. Takes no memory and no step. `Unknown` where it isn't live,
+    /// `NotStarted` where it waits, `NotEnded` where its optimistic shadow isn't at its end. A refused one changes nothing.
     pub fn commit(&mut self, txn: u32) -> Result<(), CommitRefusal>
         ensures accepted { IsOk result ↔ (commit_refusal (commit_of self.old.numbers txn) ≡ None) }
         ensures refusal { IfErr result (λ e. commit_refusal (commit_of self.old.numbers txn) ≡ Some e) }
@@ -287,8 +289,8 @@ impl Forest {
         }
     }
 
-    /// Withdraws a live transaction. The tables stay; its lane, if it held one, is given to the first that waits. A refused one
-    /// changes nothing.
+    /// Withdraws a live transaction. The tables stay; its lane, if it held one, is given to the first that waits. `Unknown` where it
+    /// isn't live, else `Sealed` where the journal is sealed. A refused one changes nothing.
     pub fn withdraw(&mut self, txn: u32) -> Result<(), WithdrawRefusal>
         ensures accepted { IsOk result ↔ (withdraw_refusal (withdraw_of self.old.numbers txn) ≡ None) }
         ensures refusal { IfErr result (λ e. withdraw_refusal (withdraw_of self.old.numbers txn) ≡ Some e) }
@@ -358,12 +360,12 @@ impl Forest {
         }
     }
 
-    /// Calls all home, and then commits and makes steps until nothing is left to do. Afterwards no transaction is live.
+    /// Calls all home, and then commits and makes steps until nothing is left to do. It leaves no transaction live.
     pub fn drain<L: Ledger>(&mut self, steps: &mut Steps<L>)
         ensures next { self.new ≡ (drain_view self.old).1 }
         ensures numbers { self.new.numbers ≡ (drain_of self.old.numbers).1 }
         ensures empty { (t : ℕ) → is_live self.new.numbers.journal t ≡ false }
-        ensures ticks { steps.new ≡ steps.old + (drain_view self.old).0 }
+        ensures ticks { steps.new ≡ steps.old + (drain_of self.old.numbers).0 }
     {
         // the limits come with the number of the started: there is a lane, so nobody waits for ever
         let _ = self.lanes.len();

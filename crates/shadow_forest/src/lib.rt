@@ -1,4 +1,6 @@
 //! Transactions that run as shadows, and commit in one serial order.
+//!
+//! The rules stand in docs/RULES.md, what is proved in docs/PROMISES.md.
 #![tactic(auto)]
 
 mod answers;

@@ -1,4 +1,4 @@
-// Which shadow makes the next step, and who is committed next.
+// Which shadow makes the next step.
 ghost use Rattle.std.specs.Prelude.{◌≡◌, ◌<◌, [], ◌∷◌, ◌++◌, true, List, Some, length, slice_get};
 ghost use Rattle.forest_model.specs.Pick.{pick_of};
 ghost use Rattle.block_rule.specs.declared.role.Row.{Row as RowOf};

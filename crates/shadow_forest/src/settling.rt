@@ -113,45 +113,46 @@ fn are_same(some: &[(u32, u32)], other: &[(u32, u32)]) -> bool
     true
 }
 
-/// After a transaction's end, which took these back, each of those and each that waits for one of them or for it has the shadows
-/// that it wants now. The others want what they wanted before.
-pub(crate) fn renew_around(lanes: &mut Lanes, txns: &[Txn], ended: u32, back: &[Resumed])
+/// After a transaction's end, by which these were resumed, each of those and each that waits for one of them or for it has the
+/// shadows that it wants now. The others want what they wanted before.
+pub(crate) fn renew_around(lanes: &mut Lanes, txns: &[Txn], ended: u32, resumed: &[Resumed])
     requires { AreCarried lanes.old.items txns.now lanes.old.seats }
-    ensures { lanes.new ≡ record lanes.old { seats = around_renewed lanes.old.most lanes.old.items txns.now ended (map resumed_pair back.now) lanes.old.seats } }
+    ensures { lanes.new ≡ record lanes.old { seats = around_renewed lanes.old.most lanes.old.items txns.now ended (map resumed_pair resumed.now) lanes.old.seats } }
 {
     for place in 0..lanes.len() {
-        if is_around(lanes, place, ended, back) {
+        if is_around(lanes, place, ended, resumed) {
             renew_at(lanes, txns, place);
         }
     }
 }
 
-// Whether the transaction at a place is touched, or waits for one that is.
-fn is_around(lanes: &Lanes, place: u32, ended: u32, back: &[Resumed]) -> bool
+// Whether the transaction at a place was resumed, or waits for one that was, or for the one that ended.
+fn is_around(lanes: &Lanes, place: u32, ended: u32, resumed: &[Resumed]) -> bool
     requires { place < length lanes.now.seats }
-    ensures { (r : Seat) → slice_get lanes.now.seats place ≡ Some r → result ≡ is_around_of ended (map resumed_pair back.now) r }
+    ensures { (r : Seat) → slice_get lanes.now.seats place ≡ Some r → result ≡ is_around_of ended (map resumed_pair resumed.now) r }
 {
-    is_touched(lanes.number(place), ended, back)
-        || waits_for_touched(lanes.conflicts(place), ended, back)
+    is_touched(lanes.number(place), ended, resumed)
+        || waits_for_touched(lanes.conflicts(place), ended, resumed)
 }
 
-fn waits_for_touched(conflicts: &[(u32, u32)], ended: u32, back: &[Resumed]) -> bool
-    ensures { result ≡ list_any (λ (w : Conflict). is_touched_of ended (map resumed_pair back.now) w.0) conflicts.now }
+// Whether one of these guards is the one that ended, or was resumed.
+fn waits_for_touched(conflicts: &[(u32, u32)], ended: u32, resumed: &[Resumed]) -> bool
+    ensures { result ≡ list_any (λ (w : Conflict). is_touched_of ended (map resumed_pair resumed.now) w.0) conflicts.now }
 {
     for i in 0..conflicts.len() {
-        if is_touched(conflicts[i].0, ended, back) {
+        if is_touched(conflicts[i].0, ended, resumed) {
             return true;
         }
     }
     false
 }
 
-// Whether this is the one that ended, or one of those that it took back.
-fn is_touched(number: u32, ended: u32, back: &[Resumed]) -> bool
-    ensures { result ≡ is_touched_of ended (map resumed_pair back.now) number }
+// Whether this is the one that ended, or was resumed by it.
+fn is_touched(number: u32, ended: u32, resumed: &[Resumed]) -> bool
+    ensures { result ≡ is_touched_of ended (map resumed_pair resumed.now) number }
 {
-    for i in 0..back.len() {
-        if back[i].txn == number {
+    for i in 0..resumed.len() {
+        if resumed[i].txn == number {
             return true;
         }
     }

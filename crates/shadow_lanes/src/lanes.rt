@@ -42,7 +42,8 @@ impl Model for Lanes {
 }
 
 impl Lanes {
-    /// Room for so many started transactions with so many shadows each, over so many items; nobody is started.
+    /// Room for so many started transactions, 1 to 64, with so many shadows each, 1 to 8, over so many items, at most 1,024; nobody
+    /// is started. Where memory runs out, `AllocError`; no other call takes memory.
     pub fn open(alloc: Global, items: u32, k: u32, lanes: u32) -> Result<Lanes, AllocError>
         requires items { items ≤ 1024 }
         requires least { 1 ≤ k }

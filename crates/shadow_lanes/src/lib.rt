@@ -1,4 +1,6 @@
 //! The started transactions and the states of their shadows.
+//!
+//! The rules stand in docs/RULES.md, what is proved in docs/PROMISES.md.
 #![tactic(auto)]
 
 mod fill;

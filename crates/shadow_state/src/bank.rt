@@ -34,7 +34,8 @@ impl Bank {
     ghost use Rattle.shadow_state.specs.Bank.{Slot, Sides, Banked, AreSides, fresh_slot, forked, placed_slot, swapped, marked_in, state_in, lane_with, present_at};
     ghost use Rattle.shadow_state.specs.Step.{StepsOver};
 
-    /// A bank of so many lanes, with so many slots a side, for states over so many items.
+    /// A bank of so many lanes, with so many slots a side, for states over so many items, at most 1,024. Where memory runs out,
+    /// `AllocError`; no other call takes memory.
     pub fn open(alloc: Global, items: u32, k: u32, lanes: u32) -> Result<Bank, AllocError>
         requires items { items ≤ 1024 }
         requires least { 1 ≤ k }

@@ -28,7 +28,7 @@ module _ {I : Type 0} where
   abbrev pub seats_in : List (View I) → ℕ
   seats_in views = sum_by (λ v. v.seats) views
 
-  -- 1. The tickets out are distinct, and they are the numbers from `serving` up to, not with, `next`
+  -- 1. No two passes have one ticket, and the tickets that passes have are those below `next` that were not passed on
   pub record TicketsInOrder (views : List (View I)) (serving next : ℕ) : Type 0 where
     pub distinct : (i j : ℕ) (v w : View I) (n : ℕ) → IsViewAt views i v → IsViewAt views j w → HasTicket v.stage n → HasTicket w.stage n → i ≡ j
     pub out : (n : ℕ) → IsOutAt views n ↔ ((serving ≤ n) × (n < next))
@@ -61,7 +61,7 @@ module _ {I : Type 0} where
     pub alone : (i j : ℕ) (v w : View I) → IsViewAt views i v → IsViewAt views j w → is_holding v.stage ≡ true → is_holding w.stage ≡ true → i ≡ j
     pub seen : AllSeenBegin list views
 
-  -- 4. The seats of all passes are those of the opening, and each pass that was not joined away has one. So there are never more tickets out than seats
+  -- 4. The seats of all passes are those of the opening, and each pass that was not joined away has one. The tickets out are thus at most as many as the seats
   pub record SeatsAddUp (views : List (View I)) (seats : ℕ) : Type 0 where
     pub total : seats_in views ≡ seats
     pub seated : (j : ℕ) (v : View I) → IsViewAt views j v → (v ≡ spent) ⊎ (0 < v.seats)

@@ -13,7 +13,8 @@ use std::snapshot::Snapshot;
 use std::sync::Wait;
 
 impl<V: Kept> TurnCell<V> {
-    /// A cell with this value, and a pass that has all its seats. Without memory the value is dropped.
+    /// A cell with this value, and a pass that has all its seats, at least 1. Where memory runs out, `AllocError`, and the value is
+    /// dropped.
     #[tactic(auto, using(crate::proofs::StepLemmas::opens))]
     pub fn open(alloc: Global, value: V, seats: u32) -> Result<(TurnCell<V>, Pass<V>), AllocError>
         requires { 1 ≤ seats }
@@ -30,7 +31,7 @@ impl<V: Kept> TurnCell<V> {
         Ok((TurnCell { table }, Pass { seat }))
     }
 
-    /// A new pass with one of the seats. It has seen the same and has no turns.
+    /// A new pass with one of the seats, of which the pass has at least 2. It has seen the same and has no turns. Takes no memory.
     pub fn split(&self, pass: &mut Pass<V>) -> Pass<V>
         requires cell { IsOf pass.old self.now }
         requires seats { 2 ≤ seats_of pass.old }
@@ -53,7 +54,7 @@ impl<V: Kept> TurnCell<V> {
         self.meet(&mut pass.seat);
     }
 
-    /// Waits for the pass's turn. The thread sleeps until then.
+    /// Waits for the pass's turn. Its promises hold if it returns; nothing is promised of when, or of who comes first.
     pub fn take_turn<R: Wait>(&self, rt: &R, pass: Pass<V>) -> Held<V>
         requires { IsOf pass self.now }
         ensures pass { IsTurnOf result self.now × (seats_behind result ≡ seats_of pass) × (turns_before result ≡ turns_of pass) }

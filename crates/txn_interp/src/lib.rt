@@ -1,4 +1,6 @@
 //! Copied executions of programs.
+//!
+//! The language and its limits stand in docs/LANGUAGE.md, what is proved in docs/PROMISES.md.
 #![tactic(auto)]
 
 mod counters;

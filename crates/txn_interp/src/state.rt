@@ -351,7 +351,7 @@ impl State {
         }
     }
 
-    /// What the next step is.
+    /// What the next step is. The code is that of the run's program.
     pub fn next_kind(&self, code: &Code) -> Kind
         requires { Runs code.now.nodes self.now }
         ensures kind { HasKind code.now.nodes self.now result }
@@ -392,7 +392,7 @@ impl State {
     ghost use Rattle.txn_runs.specs.Bounds.{reach, IsProgram};
     ghost use Rattle.txn_code.specs.Nodes.{nodes_of};
 
-    /// Makes a step that is Local.
+    /// Makes a step that is Local. The code is that of the run's program.
     pub fn step_local<L: Ledger>(&mut self, code: &Code, steps: &mut Steps<L>)
         requires runs { Runs code.now.nodes self.old }
         requires kind { HasKind code.now.nodes self.old Local }
@@ -406,7 +406,7 @@ impl State {
         self.step(code, 0);
     }
 
-    /// Makes the read of an item of the tables, which have this value there.
+    /// Makes the read of an item of the tables, which have this value there. The code is that of the run's program.
     pub fn step_read<L: Ledger>(&mut self, code: &Code, value: i64, steps: &mut Steps<L>)
         requires runs { Runs code.now.nodes self.old }
         requires kind { (item : ℕ) × HasKind code.now.nodes self.old (TableRead item) }
@@ -420,7 +420,7 @@ impl State {
         self.step(code, value);
     }
 
-    /// Makes a write.
+    /// Makes a write. The code is that of the run's program.
     pub fn step_write<L: Ledger>(&mut self, code: &Code, steps: &mut Steps<L>)
         requires runs { Runs code.now.nodes self.old }
         requires kind { (item : ℕ) × (value : ℤ) × HasKind code.now.nodes self.old (Write item value) }
@@ -434,7 +434,7 @@ impl State {
         self.step(code, 0);
     }
 
-    /// Becomes the state before the first step of the code's program. The room stays.
+    /// Becomes the state before the first step of the code's program, which fits the room. The room stays.
     pub fn reset(&mut self, code: &Code)
         requires { Carries code.now.nodes self.old.log.room }
         ensures fresh { self.new ≡ fresh_state code.now.nodes self.old.log.room }
@@ -476,7 +476,8 @@ impl State {
         self.done = other.done;
     }
 
-    /// Makes Local steps until the next one is not Local or so many are made, and answers their number.
+    /// Makes Local steps until the next one is not Local or so many are made, and answers their number. The code is that of the run's
+    /// program.
     pub fn run_local<L: Ledger>(&mut self, code: &Code, most: u32, steps: &mut Steps<L>) -> u32
         requires runs { Runs code.now.nodes self.old }
         ensures runs { Runs code.now.nodes self.new }
@@ -508,7 +509,7 @@ impl State {
         self.done
     }
 
-    /// How the run has ended.
+    /// How the run has ended; it has.
     pub fn outcome(&self) -> Outcome
         requires { IsTrue self.now.done }
         ensures { (nodes : List Node) (body : List Stmt) (tables : Tables) → RunsOver nodes body tables self.now → result ≡ outcome_of body tables }

@@ -1,4 +1,6 @@
 //! Words of the program text, and the tables by their names.
+//!
+//! The language and its limits stand in docs/LANGUAGE.md, what is proved in docs/PROMISES.md.
 #![tactic(auto)]
 
 mod names;

@@ -86,14 +86,14 @@ impl Names {
         Ok(())
     }
 
-    /// The table of a name. Takes no memory.
+    /// The table of a name, or `None` where no table has it. Takes no memory.
     pub fn find(&self, name: &[u8]) -> Option<TableRef>
         ensures { result ≡ table_named self.now name.now }
     {
         self.tables.get(name).copied()
     }
 
-    /// The name of a table by its number.
+    /// The name of a table by its number, from 0, which is below `count`.
     pub fn name(&self, number: u32) -> &[u8]
         requires { number < length self.now }
         ensures { option_map (λ table. table.0) (slice_get self.now number) ≡ Some result.now }
@@ -104,7 +104,7 @@ impl Names {
         }
     }
 
-    /// A table by its number.
+    /// A table by its number, from 0, which is below `count`.
     pub fn table(&self, number: u32) -> TableRef
         requires { number < length self.now }
         ensures { table_at self.now number ≡ Some result }

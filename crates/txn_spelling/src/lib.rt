@@ -1,4 +1,6 @@
 //! The canonical spelling of programs.
+//!
+//! The language and its limits stand in docs/LANGUAGE.md, what is proved in docs/PROMISES.md.
 #![tactic(auto)]
 
 mod laws;

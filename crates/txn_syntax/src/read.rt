@@ -14,7 +14,8 @@ use txn_tokens::{Token, Tokens};
 
 /// The program that bytes spell. Refused as `Syntax` where they spell none, whatever names and numbers mean, with the offset of
 /// the first token with which no program begins, or the number of bytes where the tokens end too early; else as `UnknownTable`
-/// with the offset of the first name that no table has; else as `Limit` with the first limit that is broken.
+/// with the offset of the first name that no table has; else as `Limit` with the first limit that is broken. Offsets count bytes
+/// from 0. `OutOfMemory` for want of memory, which may come before the others.
 pub fn read_program(alloc: Global, names: &Names, bytes: &[u8]) -> Result<Program, ReadRefusal>
     ensures reads { Gives result (read_of names.now bytes.now) }
     ensures within { IfOk result (λ program. reach program ≤ items_of names.now) }

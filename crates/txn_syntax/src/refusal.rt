@@ -9,7 +9,7 @@ pub enum Which {
     Loops,
     /// At most 256 statements.
     Statements,
-    /// At most 8 blocks in one another.
+    /// At most 8 blocks of `if` and `loop` in one another.
     Depth,
     /// At most 100,000 steps.
     Steps,

@@ -1,4 +1,6 @@
 //! The tokens of a program text.
+//!
+//! The language and its limits stand in docs/LANGUAGE.md, what is proved in docs/PROMISES.md.
 #![tactic(auto)]
 
 mod byte_kind;

@@ -1,4 +1,6 @@
 //! The transactions that wait for a lane.
+//!
+//! The rules stand in docs/RULES.md, what is proved in docs/PROMISES.md.
 #![tactic(auto)]
 
 ghost use Rattle.std.specs.Prelude.{◌≡◌, ◌↔◌, None, ◌<◌, ◌++◌, [], ◌∷◌, not, length, filter, option_map, OnOk, OnErr};

@@ -1,7 +1,7 @@
 use Rattle.std.proofs.Common.{◌≡◌, ◌<◌, Some, length, map, slice_get, refl, sym, ◌∙◌, arith}
 use Rattle.shadow_lanes.specs.Seats.{Seat}
 use Rattle.shadow_forest.specs.Answers.{resumed_pair}
-use Rattle.shadow_forest.specs.Parts.{is_around, one_around}
+use Rattle.shadow_forest.specs.Parts.{is_around, renewed_if_around}
 use Rattle.shadow_forest.proofs.Places.{slice_get-some}
 use Rattle.shadow_forest.proofs.Renewing.{renewing_more, renewing_still, renewing_next, renewing_carried}
 use Rattle.shadow_forest.proofs.settling.renew_around.Goals as goal
@@ -10,17 +10,17 @@ use Rattle.shadow_forest.proofs.settling.renew_around.Goals.{then-is_around, els
 pub renew_at-requires-clause-carried : goal.renew_at-requires-clause-carried
 renew_at-requires-clause-carried c =
     let start = c.args.lanes.now in
-    let back = map resumed_pair c.args.back.now in
-    renewing_carried start c.args.txns.now (is_around c.args.ended back) (one_around start.most start.items c.args.txns.now c.args.ended back start.seats) (λ r. refl)
+    let back = map resumed_pair c.args.resumed.now in
+    renewing_carried start c.args.txns.now (is_around c.args.ended back) (renewed_if_around start.most start.items c.args.txns.now c.args.ended back start.seats) (λ r. refl)
     c.loop-place.lanes c.loop-place.place c.loop-place.invariant c.requires
 
 pub loop-place-preserved : goal.loop-place-preserved
 loop-place-preserved c =
     let start = c.args.lanes.now in
-    let back = map resumed_pair c.args.back.now in
+    let back = map resumed_pair c.args.resumed.now in
     let lt : c.loop-place.place < length start.seats = omega (arith, c.loop-place-test.true, c.len-place-end.ensures.len) in
     let here : (r : Seat) × (slice_get start.seats c.loop-place.place ≡ Some r) = slice_get-some start.seats c.loop-place.place lt in
-    let f : Seat → Seat = one_around start.most start.items c.args.txns.now c.args.ended back start.seats in
+    let f : Seat → Seat = renewed_if_around start.most start.items c.args.txns.now c.args.ended back start.seats in
     let there : slice_get c.loop-place.lanes.seats c.loop-place.place ≡ Some here.0 =
     renewing_next start c.args.txns.now (is_around c.args.ended back) f (λ r. refl) c.loop-place.lanes c.loop-place.place here.0 c.loop-place.invariant here.1
     in

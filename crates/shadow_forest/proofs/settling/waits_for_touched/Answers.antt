@@ -8,12 +8,12 @@ use Rattle.shadow_forest.proofs.settling.waits_for_touched.Goals as goal
 
 pub returns-then-is_touched : goal.returns-then-is_touched
 returns-then-is_touched c =
-    let test : Conflict → Bool = (λ (w : Conflict). is_touched c.args.ended (map resumed_pair c.args.back.now) w.0) in
+    let test : Conflict → Bool = (λ (w : Conflict). is_touched c.args.ended (map resumed_pair c.args.resumed.now) w.0) in
     sym (list_any_at test c.args.conflicts.now c.loop-i.i (0, 0) c.loop-i-test.true (sym c.is_touched.ensures ∙ c.if-is_touched.true))
 
 pub loop-i-preserved : goal.loop-i-preserved
 loop-i-preserved c =
-    let test : Conflict → Bool = (λ (w : Conflict). is_touched c.args.ended (map resumed_pair c.args.back.now) w.0) in
+    let test : Conflict → Bool = (λ (w : Conflict). is_touched c.args.ended (map resumed_pair c.args.resumed.now) w.0) in
     list_any_more test c.args.conflicts.now c.loop-i.i (0, 0) c.loop-i-test.true ∙ ap₂ (λ a b. a || b) c.loop-i.invariant (sym c.is_touched.ensures ∙ c.if-is_touched.false)
 
 pub returns : goal.returns

@@ -2,13 +2,13 @@ use Rattle.std.proofs.Common.{◌≡◌, ℕ, ◌+◌, ◌<◌, ◌≤◌, false
 use Rattle.journal_core.specs.Journal.{is_live}
 use Rattle.forest_model.specs.Forest.{Forest}
 use Rattle.forest_model.specs.Sound.{IsSound}
-use Rattle.forest_model.specs.Drain.{left, drain_step}
+use Rattle.forest_model.specs.Drain.{left, drain_step, drain as drain_of}
 use Rattle.forest_model.specs.declared.did.Did.TheVariants.{Nothing}
 use Rattle.forest_model.proofs.StepLaws.{recall-sound}
 use Rattle.forest_model.proofs.DrainLaws.{drain-empty}
 use Rattle.shadow_forest.specs.Answers.{did_ticks}
 use Rattle.shadow_forest.specs.View.{View, drain_step_view, drain_view}
-use Rattle.shadow_forest.proofs.Drains.{rest_view, rest-nothing, rest-last, rest-ticks, step-done, next-sound, next-lower, drain-numbers}
+use Rattle.shadow_forest.proofs.Drains.{rest_view, rest-nothing, rest-last, rest-ticks, step-done, next-sound, next-lower, drain-numbers, drain-count}
 use Rattle.shadow_forest.proofs.forest.Forest.drain.Given.{Over}
 use Rattle.shadow_forest.proofs.forest.Forest.drain.Goals as goal
 use Rattle.shadow_forest.proofs.forest.Forest.drain.Goals.{in-Nothing, in_default}
@@ -55,7 +55,7 @@ returns-then-matches-clause-ticks g c =
     let none : (rest_view c.loop.self).0 ≡ 0 = ap (λ (x : ℕ × View). x.0) (rest g c) in
     let still : did_ticks c.drain_step.result ≡ 0 = ap did_ticks (nothing g c) in
     let ticks : c.loop.steps + (rest_view c.loop.self).0 ≡ c.args.steps.now + (rest_view c.recall.new.self).0 = c.loop.invariant.ticks in
-    let all : (rest_view c.recall.new.self).0 ≡ (drain_view c.args.self.now).0 = ap (λ (x : ℕ × View). x.0) (called g c) in
+    let all : (rest_view c.recall.new.self).0 ≡ (drain_of c.args.self.now.numbers).0 = ap (λ (x : ℕ × View). x.0) (called g c) ∙ drain-count c.args.self.now in
     let ticked : c.drain_step.new.steps ≡ c.loop.steps + did_ticks c.drain_step.result = c.drain_step.ensures.ticks in
     omega arith
 
