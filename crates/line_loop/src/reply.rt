@@ -1,6 +1,6 @@
 // A reply, made whole and then handed to the sink as one piece.
-ghost use Rattle.std.specs.Prelude.{◌≡◌, ◌≤◌, ◌<◌, ◌+◌, ℕ, List, [], ◌++◌, length, OnOk, OnErr, IfErr, Option};
-ghost use Rattle.scc_ports.specs.Ports.{Gains, GainsPrefix, HasCause, Rose};
+ghost use Rattle.std.specs.Prelude.{◌≡◌, ◌≤◌, ◌<◌, ◌+◌, ℕ, List, [], ◌++◌, length, OnOk, OnErr, IfErr};
+ghost use Rattle.scc_ports.specs.Ports.{Gains, GainsPrefix};
 ghost use Rattle.line_loop.specs.Meaning.{IsBreak};
 
 use crate::{Ending, Machine};

@@ -1,5 +1,5 @@
 // The words of the command line.
-ghost use Rattle.std.specs.Prelude.{◌≡◌, ◌≤◌, ◌^◌, ◌<◌, ℕ, [], ◌∷◌, map, string_bytes, IsTrue, ◌↔◌, codes, IfOk, OnErr, IfSome, IfNone};
+ghost use Rattle.std.specs.Prelude.{◌≡◌, ◌≤◌, ◌^◌, ◌<◌, ℕ, [], ◌∷◌, map, string_bytes, ◌↔◌, IfOk, OnErr, IfSome, IfNone};
 ghost use Rattle.scc.specs.Words.{Spells, SpellsNumber};
 
 use scc_text::read_natural;

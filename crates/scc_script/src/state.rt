@@ -1,5 +1,5 @@
 // The state of a script, and its answers to lines.
-ghost use Rattle.std.specs.Prelude.{◌≡◌, ◌≤◌, ◌<◌, ◌+◌, ℕ, List, ◌++◌, length, IfOk, OnOk};
+ghost use Rattle.std.specs.Prelude.{◌≡◌, ◌≤◌, ◌<◌, ◌+◌, ◌++◌, length, IfOk, OnOk};
 ghost use Rattle.txn_runs.specs.Bounds.{reach};
 ghost use Rattle.txn_names.specs.Tables.{items_of};
 ghost use Rattle.txn_syntax.specs.Reads.{read_of};

@@ -10,7 +10,7 @@ use Rattle.forest_model.proofs.Lists.{either, all-weaken}
 use Rattle.ready_order.proofs.Picks.{picks-ready, picks-other}
 use Rattle.shadow_lanes.specs.Seats.{Seat, Waiter}
 use Rattle.shadow_forest.specs.declared.txn.Txn.{Txn}
-use Rattle.shadow_forest.specs.Parts.{deadline_at, waiter_rows, seat_rows, comes_before}
+use Rattle.shadow_forest.specs.Parts.{deadline_at, waiter_rows, seat_rows, row_comes_before}
 
 -- one row more
 later-row : (rows : List Row) (b x : Row) → pick_of rows ≡ Some b → is_earlier x b ≡ false → pick_of (rows ++ x ∷ []) ≡ Some b
@@ -33,11 +33,11 @@ waiter_rows-of : (t deadline place : ℕ) (ws : List Waiter) → AllByRecursion 
 waiter_rows-of t deadline place [] = tt
 waiter_rows-of t deadline place (w ∷ ws) = (record { number = refl; deadline_is = refl }, waiter_rows-of t deadline (suc place) ws)
 
-behind : (b x : Row) (t deadline : ℕ) → IsRowOf t deadline x → comes_before (Some b) t deadline ≡ true → is_earlier x b ≡ false
+behind : (b x : Row) (t deadline : ℕ) → IsRowOf t deadline x → row_comes_before (Some b) t deadline ≡ true → is_earlier x b ≡ false
 behind b x t deadline of_t first = let number = of_t.number in let deadline_is = of_t.deadline_is in grind (arith, nat_tests)
 
 -- where it comes before all of r's rows it stays
-pub pick-stays : (txns : List Txn) (r : Seat) (best : Option Row) (before : List Row) → best ≡ pick_of before → comes_before best r.number (deadline_at txns r.number) ≡ true → best ≡ pick_of (before ++ seat_rows txns r)
+pub pick-stays : (txns : List Txn) (r : Seat) (best : Option Row) (before : List Row) → best ≡ pick_of before → row_comes_before best r.number (deadline_at txns r.number) ≡ true → best ≡ pick_of (before ++ seat_rows txns r)
 pick-stays txns r None before e first = cc
 pick-stays txns r (Some b) before e first =
     let deadline : ℕ = deadline_at txns r.number in

@@ -169,9 +169,9 @@ abbrev pub all_rows : List Txn → List Seat → List Row
 all_rows txns seats = flat_map (seat_rows txns) seats
 
 -- this row comes before those of t, by deadline and number
-abbrev pub comes_before : Option Row → ℕ → ℕ → Bool
-comes_before None t deadline = false
-comes_before (Some b) t deadline = nat_lt b.deadline deadline || (b.deadline == deadline && nat_lt b.txn t)
+abbrev pub row_comes_before : Option Row → ℕ → ℕ → Bool
+row_comes_before None t deadline = false
+row_comes_before (Some b) t deadline = nat_lt b.deadline deadline || (b.deadline == deadline && nat_lt b.txn t)
 
 -- One more.
 

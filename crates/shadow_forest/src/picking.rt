@@ -3,7 +3,7 @@ ghost use Rattle.std.specs.Prelude.{◌≡◌, ◌<◌, [], ◌∷◌, ◌++◌,
 ghost use Rattle.forest_model.specs.Pick.{pick_of};
 ghost use Rattle.block_rule.specs.declared.role.Row.{Row as RowOf};
 ghost use Rattle.shadow_lanes.specs.Seats.{Seat, slots_of};
-ghost use Rattle.shadow_forest.specs.Parts.{seat_rows, all_rows, role_in, comes_before};
+ghost use Rattle.shadow_forest.specs.Parts.{seat_rows, all_rows, role_in, row_comes_before};
 ghost use Rattle.shadow_forest.specs.Ready.{AreCarried};
 
 use crate::txn::{Txn, deadline_of};
@@ -45,7 +45,7 @@ fn pick_at(lanes: &Lanes, txns: &[Txn], place: u32, best: Option<Row>) -> Option
 
 // Whether this row comes before all of a transaction's rows, which share its deadline and its number.
 fn comes_first(best: Option<Row>, txn: u32, deadline: u64) -> bool
-    ensures { result ≡ comes_before best txn deadline }
+    ensures { result ≡ row_comes_before best txn deadline }
 {
     match best {
         None => false,

@@ -1,6 +1,5 @@
 // Who comes first, by deadline and number.
 ghost use Rattle.std.specs.Prelude.{◌≡◌, Some, length, map, filter, IfSome};
-ghost use Rattle.std.specs.List.{AllByRecursion};
 ghost use Rattle.forest_model.specs.Choose.{first_by};
 ghost use Rattle.shadow_lanes.specs.Seats.{Seat};
 ghost use Rattle.shadow_forest.specs.Parts.{is_prior_at, later_of};

@@ -1,4 +1,4 @@
-ghost use Rattle.std.specs.Prelude.{◌≡◌, ◌<◌, ◌≤◌, ◌+◌, suc, List, [], None, Some, false, length, map, slice_get, option_map, IfOk, MatchOption};
+ghost use Rattle.std.specs.Prelude.{◌≡◌, ◌<◌, ◌≤◌, ◌+◌, suc, [], None, Some, false, length, map, slice_get, option_map, IfOk, MatchOption};
 ghost use Rattle.txn_interp.specs.State.{Held, Carries, Runs};
 ghost use Rattle.shadow_state.specs.Bank.{Slot, at_place, marked_slot};
 ghost use Rattle.shadow_lanes.specs.Seats.{Seat, Seated, AreSeats, find_seat, seats_with, seats_without, slots_of, slot_at, conflicts_of, stepped_slot, seat_with, recalled_seat, settled_seat, promoted_seat, started_of, StepsOver};

@@ -31,7 +31,7 @@ impl Model for Bank {
 }
 
 impl Bank {
-    ghost use Rattle.shadow_state.specs.Bank.{Slot, Sides, Banked, AreSides, fresh_slot, forked, placed_slot, swapped, marked_in, state_in, lane_with, present_at};
+    ghost use Rattle.shadow_state.specs.Bank.{Slot, Banked, AreSides, fresh_slot, forked, placed_slot, swapped, marked_in, state_in, lane_with, present_at};
     ghost use Rattle.shadow_state.specs.Step.{StepsOver};
 
     /// A bank of so many lanes, with so many slots a side, for states over so many items, at most 1,024. Where memory runs out,

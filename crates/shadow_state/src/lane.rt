@@ -1,4 +1,4 @@
-ghost use Rattle.std.specs.Prelude.{◌≡◌, ◌<◌, ◌≤◌, ◌+◌, length, false, Some, None, slice_get, slice_set, option_map, IfOk};
+ghost use Rattle.std.specs.Prelude.{◌≡◌, ◌<◌, ◌≤◌, ◌+◌, length, false, Some, slice_get, IfOk};
 ghost use Rattle.txn_interp.specs.State.{Held, Carries, Runs};
 ghost use Rattle.shadow_state.specs.Bank.{Slot, Sides, AreSides, IsSide, fresh_slot, forked, placed_slot, swapped, marked_in, state_in};
 ghost use Rattle.shadow_state.specs.Step.{StepsOver};

@@ -1,4 +1,4 @@
-ghost use Rattle.std.specs.Prelude.{◌≡◌, ◌≢◌, ℕ, ◌+◌, ◌<◌, ◌≤◌, ◌^◌, ℤ, List, Option, [], ◌∷◌, ◌++◌, nat_eq, slice_set, length, replicate, pos, None, IfOk, IsTrue, ◌↔◌, slice_index_or, if◌then◌else◌};
+ghost use Rattle.std.specs.Prelude.{◌≡◌, ◌≢◌, ℕ, ◌+◌, ◌<◌, ◌≤◌, ◌^◌, ℤ, List, [], ◌∷◌, ◌++◌, nat_eq, slice_set, length, pos, None, IfOk, IsTrue, ◌↔◌, slice_index_or, if◌then◌else◌};
 ghost use Rattle.txn_runs.specs.declared.outcome.End.TheVariants.{Going, Failed};
 ghost use Rattle.txn_interp.specs.State.{is_finish};
 
@@ -27,7 +27,6 @@ pub struct State {
 
 impl Model for State {
     ghost use Rattle.txn_interp.specs.State.{Held, IsSized};
-    ghost use Rattle.access_sets.specs.Log.{Log};
 
     ghost Value = { Held };
 
@@ -389,7 +388,7 @@ impl State {
     ghost use Rattle.txn_runs.specs.Serial.{has_ended, outcome_of};
     ghost use Rattle.txn_interp.specs.State.{Advances, AdvancesWhere};
     ghost use Rattle.txn_runs.specs.declared.kind.Kind.TheVariants.{Local, Write};
-    ghost use Rattle.txn_runs.specs.Bounds.{reach, IsProgram};
+    ghost use Rattle.txn_runs.specs.Bounds.{IsProgram};
     ghost use Rattle.txn_code.specs.Nodes.{nodes_of};
 
     /// Makes a step that is Local. The code is that of the run's program.

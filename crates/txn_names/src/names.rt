@@ -1,4 +1,4 @@
-ghost use Rattle.std.specs.Prelude.{◌≡◌, ◌≤◌, ◌<◌, ◌∷◌, [], ◌++◌, length, IfOk, IfErr, OnErr, OnOk, option_map, slice_get, Some};
+ghost use Rattle.std.specs.Prelude.{◌≡◌, ◌≤◌, ◌<◌, ◌∷◌, [], ◌++◌, length, IfOk, OnErr, OnOk, option_map, slice_get, Some};
 ghost use Rattle.txn_names.specs.Tables.{items_of, table_named, table_at, added, CanAdd, IsNames};
 ghost use Rattle.txn_names.specs.Refusal.{add_refusal, IsRefusedBy};
 

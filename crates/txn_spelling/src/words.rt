@@ -1,6 +1,6 @@
 // The parts of a statement, appended. After want of memory more or less of a part was appended.
 ghost use Rattle.std.specs.Prelude.{◌≡◌, ◌<◌, ◌++◌, OnOk, length};
-ghost use Rattle.txn_spelling.specs.Canonical.{operand_text, op_text, cmp_text, target_text, place_text, name_text};
+ghost use Rattle.txn_spelling.specs.Canonical.{operand_text, op_text, cmp_text, target_text, place_text};
 
 use itoa::Buffer;
 use std::alloc::AllocError;

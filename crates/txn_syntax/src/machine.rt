@@ -1,5 +1,5 @@
 ghost use Rattle.std.specs.Prelude.{◌≡◌, OnOk, IfOk, is_some, true, false, MatchOption};
-ghost use Rattle.txn_syntax.specs.Reading.{Blocks, Progress, Opener, Before as BeforeAll, settled, begun, closed, opened, turned, grown, progress_step};
+ghost use Rattle.txn_syntax.specs.Reading.{Blocks, Progress, Opener, Before as BeforeAll, settled, begun, closed, opened, grown, progress_step};
 ghost use Rattle.txn_syntax.specs.Machines.{IsOpening, HasBlocks, IsMachine, FinishesAs};
 
 use crate::body::Body;

@@ -1,7 +1,7 @@
 // Kinds of bytes, and runs of one kind.
 ghost use Rattle.std.specs.Prelude.{◌≡◌, ◌≤◌, length};
 ghost use Rattle.std.specs.List.{prefix_len};
-ghost use Rattle.txn_tokens.specs.Bytes.{is_blank, is_of};
+ghost use Rattle.txn_tokens.specs.Bytes.{is_of};
 
 use txn_names::is_word_byte;
 

@@ -2,7 +2,7 @@ use Rattle.std.proofs.Common.{◌≡◌, ◌≤◌, ◌++◌, [], ◌∷◌, len
 use Rattle.std.proofs.lemmas.List.{take_all}
 use Rattle.forest_model.specs.Pick.{pick_of}
 use Rattle.shadow_lanes.specs.Seats.{Seat, conflicts_of}
-use Rattle.shadow_forest.specs.Parts.{seat_rows, deadline_at, comes_before}
+use Rattle.shadow_forest.specs.Parts.{seat_rows, deadline_at, row_comes_before}
 use Rattle.shadow_forest.proofs.Skipping.{pick-stays}
 use Rattle.shadow_forest.proofs.Elements.{mapped-is, take-more}
 use Rattle.shadow_forest.proofs.Rows.{rows-many}
@@ -18,8 +18,8 @@ pub returns-then-comes_first : goal.returns-then-comes_first
 returns-then-comes_first c = λ r before e b.
     let number : r.number ≡ c.number-txn.result = sym (mapped-is (λ (x : Seat). x.number) _ r _ c.number-txn.ensures e) in
     pick-stays c.args.txns.now r c.args.best before b
-    (ap (λ t. comes_before c.args.best t (deadline_at c.args.txns.now t)) number
-    ∙ ap (comes_before c.args.best c.number-txn.result) (sym c.deadline_of.ensures)
+    (ap (λ t. row_comes_before c.args.best t (deadline_at c.args.txns.now t)) number
+    ∙ ap (row_comes_before c.args.best c.number-txn.result) (sym c.deadline_of.ensures)
     ∙ sym c.comes_first.ensures ∙ c.if-comes_first.true)
 
 pub returns : goal.returns
