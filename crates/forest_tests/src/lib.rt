@@ -10,6 +10,8 @@ mod histories;
 #[cfg(test)]
 mod history;
 #[cfg(test)]
+mod lists;
+#[cfg(test)]
 mod opening;
 #[cfg(test)]
 mod serial;

@@ -1,6 +1,7 @@
 use crate::events::Tally;
 use crate::histories::HISTORIES;
 use crate::history::History;
+use crate::lists::{CAME, LISTS, List};
 use crate::opening::{begin, one_table, open_forest};
 use crate::{events, history};
 use std::alloc::Global;
@@ -23,20 +24,20 @@ fn worked_histories_end_as_they_must(rt: HostRuntime) -> Result<(), Fail> {
     Ok(())
 }
 
-fn happened(alloc: Global, seed: u32, tally: &mut Tally) -> Result<Option<u32>, Fail> {
+fn happened(alloc: Global, list: &List, tally: &mut Tally) -> Result<Option<usize>, Fail> {
     let blank = Blank::new(1);
-    events::first_wrong::<Brand>(blank, alloc, seed, tally)
+    events::first_wrong::<Brand>(blank, alloc, list, tally)
 }
 
 #[test]
 fn shadows_are_runs_from_the_start_after_each_event(rt: HostRuntime) -> Result<(), Fail> {
     let alloc = rt.alloc();
     let mut tally = Tally::new();
-    for seed in 0..40u32 {
-        let wrong = happened(alloc, seed, &mut tally)?;
-        assert_eq!(rt; wrong, None, "with the seed {seed}");
+    for (place, list) in LISTS.iter().enumerate() {
+        let wrong = happened(alloc, list, &mut tally)?;
+        assert_eq!(rt; wrong, None, "in the list at {place}");
     }
-    assert!(rt; tally.has_enough(), "{tally:?}");
+    assert_eq!(rt; tally, CAME);
     Ok(())
 }
 
