@@ -1,8 +1,11 @@
-// What happens to a forest, how a word tells it, and what came of it.
+// What happens to a forest, how a word tells it, and how a list of events happens.
 ghost use Rattle.std.specs.Prelude.{◌≡◌};
 
 use crate::lists::{List, OPENING, PROGRAMS};
 use crate::opening::{begin, one_table, open_forest};
+use crate::shown::Shown;
+use crate::starts::is_first;
+use crate::tally::Tally;
 use crate::watch::{is_idle, is_right};
 use block_rule::Role;
 use shadow_forest::{BeginRefusal, Forest, Stepped};
@@ -13,7 +16,7 @@ use step_count::Steps;
 use txn_names::Names;
 
 /// What happens to a forest.
-#[derive(Clone, Copy, Debug, PartialEq, Eq)]
+#[derive(Clone, Copy)]
 pub enum Event {
     /// The program of this number begins, with this deadline.
     Begin(u32, u32),
@@ -55,57 +58,6 @@ impl Event {
     }
 }
 
-/// What came of the events.
-#[derive(Clone, Copy, Debug, PartialEq, Eq)]
-pub struct Tally {
-    /// How many events were refused.
-    pub refused: u32,
-    /// How many steps shadows of guards made.
-    pub waited: u32,
-    /// How many transactions were taken back to their starts.
-    pub restarted: u32,
-    /// How many were taken back to a later position.
-    pub resumed: u32,
-    /// How many transactions had waited and were started.
-    pub started: u32,
-    /// How many were withdrawn.
-    pub withdrawn: u32,
-    /// How many were committed before the drain.
-    pub committed: u32,
-}
-
-impl Tally {
-    pub fn new() -> Tally {
-        Tally {
-            refused: 0,
-            waited: 0,
-            restarted: 0,
-            resumed: 0,
-            started: 0,
-            withdrawn: 0,
-            committed: 0,
-        }
-    }
-
-    fn refuse(&mut self) {
-        self.refused = self.refused.wrapping_add(1);
-    }
-
-    // The end of a transaction, and what it did to the others.
-    fn end(&mut self, forest: &Forest) {
-        if forest.started().is_some() {
-            self.started = self.started.wrapping_add(1);
-        }
-        for resumed in forest.resumed() {
-            if resumed.position == 0 {
-                self.restarted = self.restarted.wrapping_add(1);
-            } else {
-                self.resumed = self.resumed.wrapping_add(1);
-            }
-        }
-    }
-}
-
 /// Lets the events of a list happen to a forest, and then drains it. The place of the first after which it isn't right, and the
 /// number of the events where only the drain goes wrong.
 pub fn first_wrong<L: Ledger>(
@@ -121,13 +73,19 @@ pub fn first_wrong<L: Ledger>(
     let names = one_table(alloc)?;
     let mut steps = Steps::<L>::new(blank);
     let mut forest = open_forest(alloc, &OPENING, list.k, list.lanes)?.ok_or("limits")?;
+    let mut before = Shown::of(alloc, &forest)?;
     let mut place = 0usize;
     for word in list.events.split_whitespace() {
         let event = Event::read(word).ok_or("a word that tells no event")?;
-        happen(alloc, &names, &mut forest, event, tally, &mut steps)?;
-        if !is_right(alloc, &forest)? || (event == Event::Run && !is_idle(&forest)) {
+        let accepted = happen(alloc, &names, &mut forest, event, tally, &mut steps)?;
+        let shown = Shown::of(alloc, &forest)?;
+        tally.look(&shown);
+        if !is_right(alloc, &forest)?
+            || !is_answered(&forest, event, accepted, shown.is_same(&before))
+        {
             return Ok(Some(place));
         }
+        before = shown;
         place = place.wrapping_add(1);
     }
     forest.drain(&mut steps);
@@ -137,6 +95,20 @@ pub fn first_wrong<L: Ledger>(
     Ok(None)
 }
 
+// Whether nothing has changed where the event was refused, and else what the event alone promises holds.
+fn is_answered(forest: &Forest, event: Event, accepted: bool, same: bool) -> bool {
+    match event {
+        _ if !accepted => same,
+        Event::Run => is_idle(forest),
+        Event::Commit(_) | Event::Withdraw(_) => match forest.started() {
+            Some(txn) => is_first(forest, txn),
+            None => true,
+        },
+        _ => true,
+    }
+}
+
+// Lets an event happen. Whether it was accepted.
 fn happen<L: Ledger>(
     alloc: Global,
     names: &Names,
@@ -144,47 +116,47 @@ fn happen<L: Ledger>(
     event: Event,
     tally: &mut Tally,
     steps: &mut Steps<L>,
-) -> Result<(), Fail> {
-    match event {
+) -> Result<bool, Fail> {
+    Ok(match event {
         Event::Begin(number, deadline) => {
             let text = PROGRAMS
                 .get(number as usize)
                 .ok_or("no program of this number")?;
             match begin(alloc, names, forest, deadline, text)? {
-                Ok(_) => {}
-                Err(BeginRefusal::Sealed) => tally.refuse(),
+                Ok(_) => true,
+                Err(BeginRefusal::Sealed) => {
+                    tally.sealed();
+                    false
+                }
                 Err(refusal) => return Err(Fail::from(refusal)),
             }
         }
-        Event::Step(txn, role) => match forest.step(txn, role, steps) {
-            Stepped::Stepped { .. } => {
-                if role != Role::Optimistic {
-                    tally.waited = tally.waited.wrapping_add(1);
-                }
-            }
-            _ => tally.refuse(),
-        },
+        Event::Step(txn, role) => {
+            let answer = forest.step(txn, role, steps);
+            tally.stepped(answer, role != Role::Optimistic);
+            matches!(answer, Stepped::Stepped { .. })
+        }
         Event::Commit(txn) => {
-            if forest.commit(txn).is_ok() {
-                tally.committed = tally.committed.wrapping_add(1);
-                tally.end(forest);
-            } else {
-                tally.refuse();
-            }
+            let answer = forest.commit(txn);
+            tally.committed(answer, forest);
+            answer.is_ok()
         }
         Event::Withdraw(txn) => {
-            if forest.withdraw(txn).is_ok() {
-                tally.withdrawn = tally.withdrawn.wrapping_add(1);
-                tally.end(forest);
-            } else {
-                tally.refuse();
-            }
+            let answer = forest.withdraw(txn);
+            tally.withdrew(answer, forest);
+            answer.is_ok()
         }
         Event::Run => {
-            let _made = forest.run_idle(steps);
+            tally.ran(forest.run_idle(steps));
+            true
         }
-        Event::Recall => forest.recall(),
-        Event::Seal => forest.seal(),
-    }
-    Ok(())
+        Event::Recall => {
+            forest.recall();
+            true
+        }
+        Event::Seal => {
+            forest.seal();
+            true
+        }
+    })
 }

@@ -1,6 +1,6 @@
 use crate::history::Act::{
-    Begin, Commit, Drain, DrainStep, Lives, NoBegin, NoCommit, NoStep, NoWithdraw, Run, Seal, Show,
-    Step, Tells, Withdraw,
+    Begin, Commit, Drain, DrainStep, Holds, Lives, NoBegin, NoCommit, NoStep, NoWithdraw, Run,
+    Seal, Show, Step, Tells, Withdraw,
 };
 use crate::history::History;
 use block_rule::Role::{Guard, Optimistic};
@@ -9,7 +9,7 @@ use shadow_forest::{BeginRefusal, CommitRefusal, Did, Life, Resumed, Stepped, Wi
 
 const ZEROS: [i64; 4] = [0, 0, 0, 0];
 
-pub const HISTORIES: [History; 14] = [
+pub const HISTORIES: [History; 15] = [
     History {
         name: "a restart",
         k: 1,
@@ -75,6 +75,8 @@ pub const HISTORIES: [History; 14] = [
                     (Guard(2), 1, Some(1), Blocked),
                 ],
             ),
+            Holds(1, 0, (&[(1, 2)], &[], &[])),
+            Holds(1, 1, (&[(1, 2)], &[], &[])),
             Commit(
                 2,
                 "commit 2 done\n",
@@ -85,6 +87,7 @@ pub const HISTORIES: [History; 14] = [
                 None,
             ),
             Show(1, &[(Optimistic, 1, None, Runnable)]),
+            Holds(1, 0, (&[(1, 2)], &[], &[])),
             Run(2),
             Commit(1, "commit 1 done 5\n", &[], None),
         ],
@@ -154,6 +157,7 @@ pub const HISTORIES: [History; 14] = [
                     (Guard(2), 1, Some(1), Blocked),
                 ],
             ),
+            Holds(1, 0, (&[], &[], &[0])),
             Commit(
                 2,
                 "commit 2 done\n",
@@ -201,6 +205,8 @@ pub const HISTORIES: [History; 14] = [
                     (Guard(2), 1, Some(2), Runnable),
                 ],
             ),
+            Holds(1, 0, (&[(5, 3)], &[], &[])),
+            Holds(1, 1, (&[(5, 3)], &[], &[])),
         ],
         last: ZEROS,
         order: &[],
@@ -218,6 +224,7 @@ pub const HISTORIES: [History; 14] = [
             Step(2, Optimistic, 1),
             Commit(2, "commit 2 done\n", &[], None),
             Show(1, &[(Optimistic, 2, None, Runnable)]),
+            Holds(1, 0, (&[(0, 1)], &[(0, 1)], &[])),
             Run(1),
             Commit(1, "commit 1 done 1\n", &[], None),
         ],
@@ -324,6 +331,9 @@ pub const HISTORIES: [History; 14] = [
                     (Guard(1), 0, Some(0), Blocked),
                 ],
             ),
+            Holds(1, 0, (&[], &[(1, 1)], &[])),
+            Holds(1, 1, (&[], &[], &[])),
+            Holds(2, 0, (&[], &[(0, 1)], &[])),
             Commit(
                 1,
                 "commit 1 done\n",
@@ -353,6 +363,20 @@ pub const HISTORIES: [History; 14] = [
             DrainStep(Did::Committed { txn: 3 }, Some(2)),
             DrainStep(Did::Committed { txn: 2 }, None),
             DrainStep(Did::Nothing, None),
+        ],
+        last: ZEROS,
+        order: &[1, 3, 2],
+    },
+    History {
+        name: "priorities, drained",
+        k: 1,
+        lanes: 1,
+        opening: ZEROS,
+        acts: &[
+            Begin(30, "{ }", Life::Started),
+            Begin(20, "{ }", Life::Waiting),
+            Begin(10, "{ }", Life::Waiting),
+            Drain,
         ],
         last: ZEROS,
         order: &[1, 3, 2],

@@ -12,10 +12,14 @@ use std::alloc::{AllocError, Global};
 use std::sync::ledger::{Blank, Ledger};
 use std::test::Fail;
 use step_count::Steps;
+use txn_interp::State;
 use txn_names::Names;
 
 /// A shadow as it must be shown: its role, its position, its point and its standing.
 pub type Look = (Role, u32, Option<u32>, Standing);
+
+/// What a state holds: the registers that aren't 0, the items that its run has written, and what it has given out.
+pub type Holding = (&'static [(u8, i64)], &'static [(u32, i64)], &'static [i64]);
 
 /// What is done to a forest, and what must come of it.
 pub enum Act {
@@ -40,6 +44,8 @@ pub enum Act {
     Drain,
     /// The shadows of a transaction.
     Show(u32, &'static [Look]),
+    /// What the state of the shadow at a place of a transaction holds.
+    Holds(u32, u32, Holding),
     Lives(u32, Life),
 }
 
@@ -127,7 +133,6 @@ fn does<L: Ledger>(
                 && tells(forest, &[], *starts)
         }
         Act::NoWithdraw(txn, refusal) => forest.withdraw(*txn) == Err(*refusal),
-        Act::Tells(resumed, starts) => tells(forest, resumed, *starts),
         Act::Run(made) => forest.run_idle(steps) == *made,
         Act::DrainStep(did, starts) => {
             forest.drain_step(steps) == *did && forest.started() == *starts
@@ -136,9 +141,22 @@ fn does<L: Ledger>(
             forest.drain(steps);
             forest.started_at(0).is_none()
         }
-        Act::Show(txn, looks) => shows(forest, *txn, looks),
-        Act::Lives(txn, life) => forest.life(*txn) == *life,
+        _ => is_seen(forest, act),
     })
+}
+
+// Whether a forest shows what must be seen.
+fn is_seen(forest: &Forest, act: &Act) -> bool {
+    match act {
+        Act::Tells(resumed, starts) => tells(forest, resumed, *starts),
+        Act::Show(txn, looks) => shows(forest, *txn, looks),
+        Act::Holds(txn, place, holding) => match forest.shadow(*txn, *place) {
+            Some(view) => holds(view.state, *holding),
+            None => false,
+        },
+        Act::Lives(txn, life) => forest.life(*txn) == *life,
+        _ => false,
+    }
 }
 
 // Whether a transaction began, and stands so.
@@ -187,4 +205,30 @@ fn shows(forest: &Forest, txn: u32, looks: &[Look]) -> bool {
         }
     }
     true
+}
+
+// Whether a state holds this.
+fn holds(state: &State, holding: Holding) -> bool {
+    let (registers, writes, emits) = holding;
+    for n in 0..16u8 {
+        if state.reg(n) != register(registers, n) {
+            return false;
+        }
+    }
+    for write in writes {
+        if state.writes().get(write.0) != Some(write.1) {
+            return false;
+        }
+    }
+    state.writes().len() as usize == writes.len() && state.emits().as_slice() == emits
+}
+
+// What a register has, where those that aren't 0 are these.
+fn register(registers: &[(u8, i64)], n: u8) -> i64 {
+    for each in registers {
+        if each.0 == n {
+            return each.1;
+        }
+    }
+    0
 }

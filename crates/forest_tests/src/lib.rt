@@ -16,6 +16,12 @@ mod opening;
 #[cfg(test)]
 mod serial;
 #[cfg(test)]
+mod shown;
+#[cfg(test)]
+mod starts;
+#[cfg(test)]
+mod tally;
+#[cfg(test)]
 mod tests;
 #[cfg(test)]
 mod watch;

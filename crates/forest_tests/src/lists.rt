@@ -1,6 +1,6 @@
 // Forty lists of events as data: with up to four shadows a transaction and up to four lanes. They were drawn once, so that
 // most of their events are accepted, and stand as they are.
-use crate::events::Tally;
+use crate::tally::{Refused, Tally};
 
 /// A list of events, and the forest to which they happen.
 pub struct List {
@@ -12,13 +12,23 @@ pub struct List {
 
 /// What comes of the events of all lists.
 pub const CAME: Tally = Tally {
-    refused: 796,
+    refused: Refused {
+        sealed: 6,
+        unknown: 104,
+        not_started: 42,
+        no_shadow: 35,
+        ended: 261,
+        blocked: 89,
+        not_ended: 259,
+    },
     waited: 52,
+    ran: 1_163,
     restarted: 30,
     resumed: 77,
     started: 177,
     withdrawn: 47,
     committed: 179,
+    stood: 30_591,
 };
 
 /// The values of the forest's table before the first event of each list.

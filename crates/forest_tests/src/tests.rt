@@ -1,8 +1,8 @@
-use crate::events::Tally;
 use crate::histories::HISTORIES;
 use crate::history::History;
 use crate::lists::{CAME, LISTS, List};
 use crate::opening::{begin, one_table, open_forest};
+use crate::tally::Tally;
 use crate::{events, history};
 use std::alloc::Global;
 use std::marker::Brand;

@@ -1,14 +1,15 @@
 // A forest set beside plain walks of its programs from their starts.
 use crate::conflicts::{Reader, are_wanted};
 use crate::serial::{is_serial, program_of};
+use crate::starts::are_started;
 use block_rule::Standing;
 use plain_walk::{Walk, is_same, walk_program};
 use shadow_forest::Forest;
 use std::alloc::{AllocError, Global};
 
 /// Whether each shadow of each transaction is where the plain walk of its program over the present tables is after as many steps,
-/// the shadows are those that these walks ask for, the tables and the outcomes are those of the serial order, and no more
-/// transactions are started and no more shadows are there than may be.
+/// the shadows are those that these walks ask for, the tables and the outcomes are those of the serial order, those are started
+/// that may be, and no more shadows are there than may be.
 pub fn is_right(alloc: Global, forest: &Forest) -> Result<bool, AllocError> {
     let mut readers = Vec::new(alloc);
     for before in 0..forest.journal().began() {
@@ -20,11 +21,7 @@ pub fn is_right(alloc: Global, forest: &Forest) -> Result<bool, AllocError> {
             readers.push(Reader { txn, walk })?;
         }
     }
-    Ok(
-        readers.len() <= forest.lanes() as usize
-            && are_wanted(forest, readers.as_slice())
-            && is_serial(alloc, forest)?,
-    )
+    Ok(are_started(forest) && are_wanted(forest, readers.as_slice()) && is_serial(alloc, forest)?)
 }
 
 /// Whether no shadow may make a step.

@@ -1,6 +1,5 @@
 -- When a table isn't added.
-use Rattle.std.specs.Prelude.{◌≡◌, ℕ, ◌+◌, ◌==◌, ◌||◌, not, if◌then◌else◌, List, Option, None, Some, is_some, Result, Ok, Err, IfErr, length, nat_lt}
-use Rattle.txn_runs.specs.declared.program.TableRef.{TableRef}
+use Rattle.std.specs.Prelude.{◌≡◌, ℕ, ◌+◌, ◌==◌, ◌||◌, not, if◌then◌else◌, List, Option, None, Some, is_some, Result, Err, IfErr, length, nat_lt}
 use Rattle.txn_names.specs.declared.refusal.NameRefusal.{NameRefusal}
 use Rattle.txn_names.specs.declared.refusal.NameRefusal.TheVariants.{Name, Twice, Full, OutOfMemory}
 use Rattle.txn_names.specs.Word.{is_table_name}

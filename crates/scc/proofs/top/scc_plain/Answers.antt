@@ -1,4 +1,3 @@
-use Rattle.std.proofs.Common.{◌≡◌}
 use Rattle.scc.specs.declared.words.Mode.TheVariants.{Script}
 use Rattle.scc.proofs.top.scc_plain.Goals as goal
 

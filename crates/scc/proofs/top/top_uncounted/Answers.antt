@@ -1,4 +1,3 @@
-use Rattle.std.proofs.Common.{◌≡◌, sym}
 use Rattle.scc.proofs.top.top_uncounted.Goals as goal
 
 pub returns-clause-script : goal.returns-clause-script

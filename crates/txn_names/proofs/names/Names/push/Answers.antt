@@ -1,6 +1,6 @@
-use Rattle.std.proofs.Common.{◌≡◌, ◌+◌, List, ◌∷◌, [], ◌++◌, length, sym, ap, ◌∙◌, subst, arith}
+use Rattle.std.proofs.Common.{◌≡◌, ◌+◌, length, sym, ap, ◌∙◌, subst, arith}
 use Rattle.txn_names.specs.Tables.{items_of, added, CanAdd}
-use Rattle.txn_names.specs.Kept.{Entry, names_of, IsKept}
+use Rattle.txn_names.specs.Kept.{names_of, IsKept}
 use Rattle.txn_names.proofs.KeptLemmas.{IsKept-append, insert_entry-free, names_of-append}
 use Rattle.txn_names.proofs.names.Names.push.Goals as goal
 
