@@ -1,5 +1,5 @@
 -- Words of the program text: names, registers and reserved words.
-use Rattle.std.specs.Prelude.{ℕ, ◌-◌, ◌==◌, ◌&&◌, ◌||◌, Bool, false, not, if◌then◌else◌, List, [], ◌∷◌, Option, None, Some, is_some, length, nat_le, codes}
+use Rattle.std.specs.Prelude.{ℕ, ◌-◌, ◌==◌, ◌&&◌, ◌||◌, Bool, false, not, if◌then◌else◌, List, [], ◌∷◌, Option, None, Some, length, nat_le, codes}
 use Rattle.std.specs.Char.{is_ascii_lowercase, is_ascii_digit}
 use Rattle.std.specs.List.{list_all, list_any}
 use Rattle.std.specs.Str.{bytes_eq}
@@ -36,9 +36,6 @@ register_number digits = None
 abbrev pub register_of : List ℕ → Option ℕ
 register_of [] = None
 register_of (byte ∷ digits) = if byte == 114 then register_number digits else None
-
-abbrev pub is_register : List ℕ → Bool
-is_register word = is_some (register_of word)
 
 -- a word that can't name a table
 abbrev pub is_reserved : List ℕ → Bool

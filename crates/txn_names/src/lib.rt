@@ -5,14 +5,13 @@
 
 mod names;
 mod refusal;
+mod send_sync;
 mod word;
 
 pub use names::Names;
 pub use refusal::NameRefusal;
-pub use word::{
-    is_keyword, is_name, is_register, is_reserved, is_table_name, is_word_byte, register_of,
-    same_bytes,
-};
+pub use send_sync::{send_names, share_names};
+pub use word::{is_reserved, is_table_name, is_word_byte, register_of, same_bytes};
 
 #[cfg(test)]
 mod tests;

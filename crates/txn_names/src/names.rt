@@ -56,22 +56,37 @@ impl Names {
         ensures refused { IsRefusedBy (add_refusal self.old name.now size) result }
         ensures err { OnErr result (self.new ≡ self.old) }
     {
-        if !is_table_name(name) {
-            return Err(NameRefusal::Name);
+        if let Some(refusal) = self.refusal(name, size) {
+            return Err(refusal);
         }
-        if self.find(name).is_some() {
-            return Err(NameRefusal::Twice);
-        }
-        let number = self.count();
-        let base = self.items();
-        if number == TABLES_MAX || size > ITEMS_MAX - base {
-            return Err(NameRefusal::Full);
-        }
-        let table = TableRef { number, base, size };
+        let table = TableRef {
+            number: self.count(),
+            base: self.items(),
+            size,
+        };
         if self.push(name, table).is_err() {
             return Err(NameRefusal::OutOfMemory);
         }
         Ok(table)
+    }
+
+    /// The first reason not to add a table of this name and size, or `None` where there is none, so that `add` refuses it for want
+    /// of memory alone. Takes no memory.
+    pub fn refusal(&self, name: &[u8], size: u32) -> Option<NameRefusal>
+        requires some { 1 ≤ size }
+        requires most { size ≤ 1024 }
+        ensures { result ≡ add_refusal self.now name.now size }
+    {
+        if !is_table_name(name) {
+            return Some(NameRefusal::Name);
+        }
+        if self.find(name).is_some() {
+            return Some(NameRefusal::Twice);
+        }
+        if self.count() == TABLES_MAX || size > ITEMS_MAX - self.items() {
+            return Some(NameRefusal::Full);
+        }
+        None
     }
 
     fn push(&mut self, name: &[u8], table: TableRef) -> Result<(), AllocError>

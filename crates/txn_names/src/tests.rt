@@ -17,16 +17,16 @@ fn words(rt: HostRuntime) {
         b"a234567890123456",
     ];
     for name in names {
-        assert!(rt; is_name(name) && is_table_name(name) && !is_reserved(name));
+        assert!(rt; is_table_name(name) && !is_reserved(name));
     }
     let others: [&[u8]; 14] = [
         b"", b"A", b"1a", b"_a", b"a-b", b"r0", b"r00", b"r16", b"r016", b"if", b"min", b"max",
         b"sum", b"emit",
     ];
     for other in others {
-        assert!(rt; !is_name(other) && !is_table_name(other));
+        assert!(rt; !is_table_name(other));
     }
-    assert!(rt; is_name(b"a2345678901234567") && !is_table_name(b"a2345678901234567"));
+    assert!(rt; !is_table_name(b"a2345678901234567"));
 }
 
 #[test]
@@ -38,7 +38,6 @@ fn registers(rt: HostRuntime) {
     let others: [&[u8]; 7] = [b"r", b"r16", b"r00", b"r015", b"r1x", b"s1", b"X7"];
     for other in others {
         assert_eq!(rt; register_of(other), None);
-        assert!(rt; !is_register(other));
     }
 }
 

@@ -5,8 +5,8 @@ ghost use Rattle.std.specs.List.{list_all};
 ghost use Rattle.std.specs.Str.{bytes_eq};
 ghost use Rattle.txn_names.specs.Word as spec;
 
-/// Whether bytes may name a table in a program: a word that isn't reserved.
-pub fn is_name(bytes: &[u8]) -> bool
+// Whether bytes may name a table in a program: a word that isn't reserved.
+fn is_name(bytes: &[u8]) -> bool
     ensures { result ≡ spec.is_name bytes.now }
 {
     is_word(bytes) && !is_reserved(bytes)
@@ -30,15 +30,8 @@ pub fn register_of(word: &[u8]) -> Option<u8>
     }
 }
 
-/// Whether a word is a register.
-pub fn is_register(word: &[u8]) -> bool
-    ensures { result ≡ spec.is_register word.now }
-{
-    register_of(word).is_some()
-}
-
-/// Whether a word means something of its own in a program.
-pub fn is_keyword(word: &[u8]) -> bool
+// Whether a word means something of its own in a program.
+fn is_keyword(word: &[u8]) -> bool
     ensures { result ≡ spec.is_keyword word.now }
 {
     same_bytes(word, b"if")

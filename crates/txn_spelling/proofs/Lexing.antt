@@ -17,10 +17,7 @@ use Rattle.txn_tokens.specs.Front.{word_token, sign_front, short_sign, long_sign
 use Rattle.txn_tokens.specs.Tokens.{tokens_from}
 use Rattle.txn_tokens.proofs.Runs.{next_some}
 use Rattle.txn_syntax.specs.Reads.{token_of}
-
-pub both_true : (a b : Bool) → (a && b) ≡ true → (a ≡ true) × (b ≡ true)
-both_true true b is = (refl, is)
-both_true false b is = cc
+use Rattle.txn_syntax.proofs.Measured.{both_true}
 
 -- no blank is as great
 not_blank : (byte : ℕ) → 33 ≤ byte → is_blank byte ≡ false

@@ -18,7 +18,8 @@ use Rattle.txn_tokens.specs.declared.token.Token.TheVariants as t
 use Rattle.txn_tokens.specs.Front.{word_token, other_word}
 use Rattle.txn_spelling.specs.Canonical.{name_text}
 use Rattle.txn_spelling.specs.Strangers.{same_extent, stranger}
-use Rattle.txn_spelling.proofs.Lexing.{both_true, Goes, goes_word}
+use Rattle.txn_syntax.proofs.Measured.{both_true}
+use Rattle.txn_spelling.proofs.Lexing.{Goes, goes_word}
 
 abbrev Differ : Named → Named → Type 0
 Differ a b = a.0 ≢ b.0

@@ -17,7 +17,6 @@ use Rattle.txn_syntax.specs.Answers.{Spells}
 use Rattle.txn_syntax.proofs.Answering.{answers_read}
 use Rattle.txn_spelling.specs.Canonical.{canonical, stmts_text}
 use Rattle.txn_spelling.specs.Strangers.{strangers}
-use Rattle.txn_spelling.specs.Wide.{wides}
 use Rattle.txn_spelling.proofs.Known.{AreKnown, known_append, none_unknown}
 use Rattle.txn_spelling.proofs.Lexing.{Goes, goes_then}
 use Rattle.txn_spelling.proofs.Spelling.{Spelling, spelling}
@@ -43,9 +42,9 @@ module _ (names : List Named) where
   closes : Goes names (125 ∷ []) [] (t.CloseBlock ∷ [])
   closes = record { go = λ at. (at + 1, refl) }
 
-  pub read_back : (body : List Stmt) → IsNames names → IsProgram body → strangers names body ≡ 0 → wides body ≡ 0 → read_of names (canonical names body) ≡ Ok body
-  read_back body good program own narrow =
-      let spelt : Spelling names good body = spelling names good body (record { registers = program.registers; loops = program.loops; own = own; narrow = narrow }) in
+  pub read_back : (body : List Stmt) → IsNames names → IsProgram body → strangers names body ≡ 0 → read_of names (canonical names body) ≡ Ok body
+  read_back body good program own =
+      let spelt : Spelling names good body = spelling names good body (record { registers = program.registers; loops = program.loops; own = own; narrow = program.literals }) in
       let whole = goes_then names (opens (stmts_text names body ++ 125 ∷ [])) (goes_then names (spelt.goes (125 ∷ [])) closes) in
       let spells : Spells (tokens names (canonical names body)) spelt.text = sym ((whole.go 0).1 ∙ append-nil (t.OpenBlock ∷ (spelled spelt.text ++ t.CloseBlock ∷ []))) in
       let known = none_unknown names (tokens names (canonical names body)) (subst (AreKnown names) spells (tt, known_append names (spelled spelt.text) (t.CloseBlock ∷ []) spelt.known (tt, tt))) in

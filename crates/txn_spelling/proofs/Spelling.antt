@@ -24,7 +24,7 @@ use Rattle.txn_syntax.specs.Grammar.{Text, Nothing, Simple, If, IfElse, Loop, op
 use Rattle.txn_syntax.specs.Meaning.{statement_of, meant, term_fits, plain_fits, literals_fit}
 use Rattle.txn_spelling.specs.Canonical.{stmt_text, stmts_text, braced, test_text, turns_text}
 use Rattle.txn_spelling.specs.Strangers.{stranger, stranger_row, strangers}
-use Rattle.txn_spelling.specs.Wide.{wide_row, wides}
+use Rattle.txn_runs.specs.Bounds.{wide_row, wides}
 use Rattle.txn_spelling.proofs.Texts.{text_calc, text_move, text_read, text_write, text_emit, text_fail, text_if, text_loop, else_none, else_some}
 use Rattle.txn_spelling.proofs.Known.{AreKnown, known_append}
 use Rattle.txn_spelling.proofs.Lexing.{Goes, goes_then}

@@ -18,7 +18,7 @@ use Rattle.txn_syntax.specs.Grammar.{operand, simple, opened_if, opened_loop}
 use Rattle.txn_syntax.specs.Meaning.{term_fits}
 use Rattle.txn_spelling.specs.Canonical.{operand_text, op_text, cmp_text, name_text, place_text, target_text, calc_text, move_text, read_text, write_text, test_text, turns_text, emit_text, fail_text}
 use Rattle.txn_spelling.specs.Strangers.{stranger}
-use Rattle.txn_spelling.specs.Wide.{is_narrow, wide}
+use Rattle.txn_runs.specs.Bounds.{is_narrow, wide}
 use Rattle.txn_spelling.proofs.Lexing.{Goes, goes_then, goes_open_index}
 use Rattle.txn_spelling.proofs.Operands.{IsStop, IsFit, term_of, goes_operand, goes_register, goes_decimal}
 use Rattle.txn_spelling.proofs.NamesFound.{goes_table}

@@ -8,5 +8,6 @@ pub mod Opened
 pub mod GoesOn
 pub mod SoundTokens
 pub mod SoundPrograms
+pub mod Narrow
 pub mod Programs
 pub mod Answering

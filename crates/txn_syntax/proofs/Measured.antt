@@ -32,6 +32,10 @@ and_assoc false b c = refl
 both : (a b x y : Bool) → a ≡ x → b ≡ y → (a && b) ≡ (x && y)
 both a b x y is same = cc
 
+pub both_true : (a b : Bool) → (a && b) ≡ true → (a ≡ true) × (b ≡ true)
+both_true true b h = (refl, h)
+both_true false b h = cc
+
 pub and_true : (a : Bool) → (a && true) ≡ a
 and_true true = refl
 and_true false = refl
@@ -51,7 +55,7 @@ greatest_append : (row : Row) (xs ys : List Stmt) → of_list row greater (xs ++
 greatest_append row [] ys = omega arith
 greatest_append row (x ∷ xs) ys = omega (arith, greatest_append row xs ys)
 
-sum_joined : (row : Row) (x y : Text) → of_list row plus (meant (joined x y)) ≡ of_list row plus (meant x) + of_list row plus (meant y)
+pub sum_joined : (row : Row) (x y : Text) → of_list row plus (meant (joined x y)) ≡ of_list row plus (meant x) + of_list row plus (meant y)
 sum_joined row x y = ap (of_list row plus) (meant_joined x y) ∙ sum_append row (meant x) (meant y)
 
 pub greatest_joined : (row : Row) (x y : Text) → of_list row greater (meant (joined x y)) ≡ max (of_list row greater (meant x)) (of_list row greater (meant y))

@@ -1,5 +1,5 @@
 -- What is read and breaks no limit is a program.
-use Rattle.std.proofs.Common.{◌≡◌, ℕ, ◌≤◌, List, [], ◌∷◌, map, Bool, true, false, Option, None, Some, Result, Ok, Err, refl, sym, ap, ◌∙◌, subst, length}
+use Rattle.std.proofs.Common.{◌≡◌, ℕ, ◌≤◌, List, [], ◌∷◌, map, Bool, true, false, Option, None, Some, Result, Ok, Err, refl, sym, ap, ◌∙◌, subst, length, add-zero}
 use Rattle.std.specs.Prelude.{if◌then◌else◌, nat_lt, not}
 use Rattle.std.proofs.lemmas.Bool.{ltb-false}
 use Rattle.txn_runs.specs.Bounds.{IsProgram, registers_used, reach, greatest_count, size, depth, steps_max, emits_max}
@@ -20,6 +20,7 @@ use Rattle.txn_syntax.proofs.TokensRead.{Tells, tells}
 use Rattle.txn_syntax.proofs.Measured.{broken_is}
 use Rattle.txn_syntax.proofs.SoundTokens.{AreSound, tokens_sound, sound_front}
 use Rattle.txn_syntax.proofs.SoundPrograms.{text_within}
+use Rattle.txn_syntax.proofs.Narrow.{text_narrow}
 
 pub from_text : (end : ℕ) (r : Result Progress (List Placed)) (text : Text) → text_from end r ≡ Ok text → r ≡ Ok (Behind text)
 from_text end (Ok (Behind x)) text h = let same : x ≡ text = cc in ap (λ v. Ok (Behind v)) same
@@ -43,9 +44,7 @@ not_false false h = cc
 
 -- a text that breaks no limit
 record Unbroken (text : Text) : Type 0 where
-  fits : Fits text
-  statements : size (meant text) ≤ 256
-  deep : depth (meant text) ≤ 8
+  fits : Fits 0 text
   steps : steps_max (meant text) ≤ 100000
   emits : emits_max (meant text) ≤ 64
 
@@ -58,9 +57,7 @@ is_unbroken text h =
     let e = unbroken (nat_lt 100000 (steps_max (meant text))) w.Steps _ d.1 in
     let f = unbroken (nat_lt 64 (emits_max (meant text))) w.Emits None e.1 in
     record {
-      fits = record { literals = not_false (literals_fit text) a.0; counts = ltb-false 1000 (greatest_count (meant text)) b.0 };
-      statements = ltb-false 256 (size (meant text)) c.0;
-      deep = ltb-false 8 (depth (meant text)) d.0;
+      fits = record { literals = not_false (literals_fit text) a.0; counts = ltb-false 1000 (greatest_count (meant text)) b.0; statements = ltb-false 256 (size (meant text)) c.0; depth = rw add-zero (ltb-false 8 (depth (meant text)) d.0) };
       steps = ltb-false 100000 (steps_max (meant text)) e.0;
       emits = ltb-false 64 (emits_max (meant text)) f.0;
     }
@@ -70,13 +67,10 @@ within_of names bytes text h =
     let all : AreSound names (program text) = subst (AreSound names) (sym (read_tokens names bytes text h)) (tokens_sound names 0 0 bytes) in
     text_within names text (sound_front names (spelled text) (t.CloseBlock ∷ []) all.1)
 
-same_text : (names : List Named) (bytes : List ℕ) (x y : Text) → text_of names bytes ≡ Ok x → text_of names bytes ≡ Ok y → x ≡ y
-same_text names bytes x y h k = let one : ◌≡◌ {A = Result Text ℕ} (Ok x) (Ok y) = sym h ∙ k in cc
-
--- what a second reading keeps is a program over the tables, where the first found no limit broken
-pub is_program : (names : List Named) (bytes : List ℕ) (judged body : Body) → (text : Text) × (text_of names bytes ≡ Ok text) × IsBody false judged text → (text : Text) × (text_of names bytes ≡ Ok text) × IsBody true body text → broken_by judged.measure ≡ None → IsProgram body.stmts × (reach body.stmts ≤ items_of names)
-is_program names bytes judged body (x, is_x, judges) (y, is_y, keeps) none =
-    let u = is_unbroken y (ap broken (same_text names bytes y x is_y is_x) ∙ sym (broken_is judged.measure x judges.measure) ∙ none) in
-    let means : body.stmts ≡ meant y = keeps.stmts refl u.fits in
-    let w = within_of names bytes y is_y in
-    subst (λ b. IsProgram b × (reach b ≤ items_of names)) (sym means) (record { registers = w.0; loops = u.fits.counts; statements = u.statements; deep = u.deep; steps = u.steps; emits = u.emits }, w.1)
+-- what is kept of a text is a program over the tables, where no limit is broken
+pub is_program : (names : List Named) (bytes : List ℕ) (body : Body) → (text : Text) × (text_of names bytes ≡ Ok text) × IsBody 0 body text → broken_by body.measure ≡ None → IsProgram body.stmts × (reach body.stmts ≤ items_of names)
+is_program names bytes body (x, is_x, keeps) none =
+    let u = is_unbroken x (sym (broken_is body.measure x keeps.measure) ∙ none) in
+    let means : body.stmts ≡ meant x = keeps.stmts u.fits in
+    let w = within_of names bytes x is_x in
+    subst (λ b. IsProgram b × (reach b ≤ items_of names)) (sym means) (record { literals = text_narrow x u.fits.literals; registers = w.0; loops = u.fits.counts; statements = u.fits.statements; deep = rw add-zero at u.fits.depth; steps = u.steps; emits = u.emits }, w.1)

@@ -39,6 +39,14 @@ statement_of (Write table at from) = s.Write (table_of table) (operand_of at) (o
 statement_of (Emit from) = s.Emit (operand_of from)
 statement_of (Fail code) = s.Fail (operand_of code)
 
+-- what an `if` over two blocks means
+abbrev pub choice_of : Test → List Stmt → List Stmt → Stmt
+choice_of test first second = s.If (operand_of test.left) test.cmp (operand_of test.right) (record { stmts = first }) (record { stmts = second })
+
+-- what a loop over a block means
+abbrev pub turns_of : ℕ → List Stmt → Stmt
+turns_of count body = s.Loop count (record { stmts = body })
+
 -- the statements that a text means
 abbrev pub meant : Text → List Stmt
 meant Nothing = []

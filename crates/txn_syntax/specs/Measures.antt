@@ -1,5 +1,5 @@
 -- Numbers of a text, each counted up to the greatest of 64 bits.
-use Rattle.std.specs.Prelude.{◌≡◌, ℕ, ◌+◌, ◌-◌, ◌*◌, ◌^◌, min, max, true, ◌&&◌, not, nat_lt, if◌then◌else◌, Option, None, Some}
+use Rattle.std.specs.Prelude.{◌≡◌, ℕ, ◌+◌, ◌-◌, ◌*◌, ◌^◌, min, max, Bool, true, ◌&&◌, not, nat_lt, nat_le, if◌then◌else◌, Option, None, Some}
 use Rattle.txn_runs.specs.Bounds.{greatest_count, size, depth, steps_max, emits_max}
 use Rattle.txn_syntax.specs.declared.place.Plain.{Plain}
 use Rattle.txn_syntax.specs.declared.place.Plain.TheVariants.{Emit}
@@ -62,6 +62,10 @@ of_turns count b =
       steps = capped (1 + capped (count * capped (1 + b.steps)));
       emits = capped (count * b.emits);
     }
+
+-- inside so many blocks: the limits hold that say which statements are kept
+abbrev pub is_kept : ℕ → Measure → Bool
+is_kept level m = m.literals && (nat_le m.count 1000 && (nat_le m.statements 256 && nat_le (capped (m.depth + level)) 8))
 
 -- a measure is that of a text
 pub record IsMeasure (m : Measure) (text : Text) : Type 0 where

@@ -1,5 +1,5 @@
 -- What bytes are read as.
-use Rattle.std.specs.Prelude.{◌≡◌, ℕ, List, [], ◌∷◌, Bool, Option, None, Some, Result, Ok, Err, length}
+use Rattle.std.specs.Prelude.{◌≡◌, ℕ, List, [], ◌∷◌, Option, None, Some, Result, Ok, Err, length}
 use Rattle.txn_runs.specs.declared.program.Stmt.{Stmt}
 use Rattle.txn_names.specs.Tables.{Named}
 use Rattle.txn_tokens.specs.declared.token.Token.{Token}
@@ -40,6 +40,11 @@ abbrev pub unknown_at : Token → ℕ → Option ℕ → Option ℕ
 unknown_at (t.Name None) at later = Some at
 unknown_at token at later = later
 
+-- an offset, or else one further on
+abbrev pub first_of : Option ℕ → Option ℕ → Option ℕ
+first_of None later = later
+first_of (Some at) later = Some at
+
 -- the offset of the first name that no table has
 abbrev pub first_unknown : List Placed → Option ℕ
 first_unknown [] = None
@@ -70,8 +75,8 @@ Gives (Err OutOfMemory) read = Unit {0}
 Gives answer read = read ≡ answer
 
 -- a body was read, or the offset was found at which no program goes on, or memory ran out
-abbrev pub GivesBody : Bool → Result Body ReadRefusal → Result Text ℕ → Type 0
-GivesBody keeps (Ok body) read = (text : Text) × (read ≡ Ok text) × IsBody keeps body text
-GivesBody keeps (Err (Syntax at)) read = read ≡ Err at
-GivesBody keeps (Err OutOfMemory) read = Unit {0}
-GivesBody keeps (Err _) read = ⊥
+abbrev pub GivesBody : Result (Body × Option ℕ) ReadRefusal → Result Text ℕ → Type 0
+GivesBody (Ok found) read = (text : Text) × (read ≡ Ok text) × IsBody 0 found.0 text
+GivesBody (Err (Syntax at)) read = read ≡ Err at
+GivesBody (Err OutOfMemory) read = Unit {0}
+GivesBody (Err _) read = ⊥

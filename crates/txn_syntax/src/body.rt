@@ -1,8 +1,7 @@
 ghost use Rattle.std.specs.Prelude.{◌≡◌, ◌≤◌, [], true, OnOk};
 ghost use Rattle.txn_syntax.specs.Bodies.{Adds};
 ghost use Rattle.txn_syntax.specs.Measures as spec;
-ghost use Rattle.txn_syntax.specs.Meaning.{negative as spec_negative, operand_of, table_of, statement_of, term_fits, plain_fits, test_fits};
-ghost use Rattle.txn_runs.specs.declared.program.Stmt.TheVariants.{If, Loop};
+ghost use Rattle.txn_syntax.specs.Meaning.{negative as spec_negative, operand_of, table_of, statement_of, choice_of, turns_of, term_fits, plain_fits, test_fits};
 
 use crate::measure::Measure;
 use crate::place::{Plain, Term, Test};
@@ -28,54 +27,67 @@ impl Body {
         }
     }
 
-    /// Adds a statement without blocks.
-    pub fn push_plain(&mut self, plain: Plain, keeps: bool) -> Result<(), AllocError>
-        ensures { OnOk result (Adds keeps self.old self.new (spec.of_plain plain) (plain_fits plain ≡ true) (statement_of plain)) }
+    /// Adds a statement without blocks, inside so many blocks.
+    pub fn push_plain(&mut self, plain: Plain, level: usize) -> Result<(), AllocError>
+        ensures { OnOk result (Adds level self.old self.new (spec.of_plain plain) (statement_of plain)) }
     {
         self.measure = self.measure.then(Measure::of_plain(plain));
-        if keeps {
+        if self.measure.is_kept(level) {
             self.stmts.push(statement_of(plain))?;
         }
         Ok(())
     }
 
-    /// Adds an `if` over two blocks.
+    /// Adds an `if` over two blocks, inside so many blocks.
     pub fn push_choice(
         &mut self,
         test: Test,
         first: Body,
         second: Body,
-        keeps: bool,
+        level: usize,
     ) -> Result<(), AllocError>
-        ensures { OnOk result (Adds keeps self.old self.new (spec.of_choice test first.measure second.measure) (test_fits test ≡ true) (If (operand_of test.left) test.cmp (operand_of test.right) (record { stmts = first.stmts }) (record { stmts = second.stmts }))) }
+        ensures { OnOk result (Adds level self.old self.new (spec.of_choice test first.measure second.measure) (choice_of test first.stmts second.stmts)) }
     {
-        self.measure = self
-            .measure
-            .then(Measure::of_choice(test, first.measure, second.measure));
-        if keeps {
-            self.stmts.push(Stmt::If {
-                left: operand_of(test.left),
-                cmp: test.cmp,
-                right: operand_of(test.right),
-                yes: Block::new(first.stmts),
-                no: Block::new(second.stmts),
-            })?;
+        let more = Measure::of_choice(test, first.measure, second.measure);
+        self.measure = self.measure.then(more);
+        if self.measure.is_kept(level) {
+            self.stmts.push(choice_of(test, first.stmts, second.stmts))?;
         }
         Ok(())
     }
 
-    /// Adds a loop over a block.
-    pub fn push_turns(&mut self, count: u64, body: Body, keeps: bool) -> Result<(), AllocError>
-        ensures { OnOk result (Adds keeps self.old self.new (spec.of_turns count body.measure) (count ≤ 1000) (Loop count (record { stmts = body.stmts }))) }
+    /// Adds a loop over a block, inside so many blocks.
+    pub fn push_turns(&mut self, count: u64, body: Body, level: usize) -> Result<(), AllocError>
+        ensures { OnOk result (Adds level self.old self.new (spec.of_turns count body.measure) (turns_of count body.stmts)) }
     {
         self.measure = self.measure.then(Measure::of_turns(count, body.measure));
-        if keeps {
-            self.stmts.push(Stmt::Loop {
-                count: small_count(count),
-                body: Block::new(body.stmts),
-            })?;
+        if self.measure.is_kept(level) {
+            self.stmts.push(turns_of(count, body.stmts))?;
         }
         Ok(())
+    }
+}
+
+// The `if`, where its literals have 64 bits.
+fn choice_of(test: Test, first: Items<Stmt>, second: Items<Stmt>) -> Stmt
+    ensures { test_fits test ≡ true → result ≡ choice_of test first second }
+{
+    Stmt::If {
+        left: operand_of(test.left),
+        cmp: test.cmp,
+        right: operand_of(test.right),
+        yes: Block::new(first),
+        no: Block::new(second),
+    }
+}
+
+// The loop, where its count is within the limit.
+fn turns_of(count: u64, body: Items<Stmt>) -> Stmt
+    ensures { count ≤ 1000 → result ≡ turns_of count body }
+{
+    Stmt::Loop {
+        count: small_count(count),
+        body: Block::new(body),
     }
 }
 

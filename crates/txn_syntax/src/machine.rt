@@ -1,4 +1,4 @@
-ghost use Rattle.std.specs.Prelude.{◌≡◌, OnOk, IfOk, is_some, true, false, MatchOption};
+ghost use Rattle.std.specs.Prelude.{◌≡◌, OnOk, IfOk, is_some, true, false, MatchOption, length};
 ghost use Rattle.txn_syntax.specs.Reading.{Blocks, Progress, Opener, Before as BeforeAll, settled, begun, closed, opened, grown, progress_step};
 ghost use Rattle.txn_syntax.specs.Machines.{IsOpening, HasBlocks, IsMachine, FinishesAs};
 
@@ -39,8 +39,6 @@ pub struct Open {
 #[derive(Drop)]
 pub struct Machine {
     pub alloc: Global,
-    /// Whether statements are kept.
-    pub keeps: bool,
     pub stage: Stage,
     /// The statements of the innermost block so far.
     pub current: Body,
@@ -51,13 +49,11 @@ pub struct Machine {
 }
 
 impl Machine {
-    pub fn new(alloc: Global, keeps: bool) -> Machine
-        ensures machine { IsMachine result BeforeAll }
-        ensures keeps { result.keeps ≡ keeps }
+    pub fn new(alloc: Global) -> Machine
+        ensures { IsMachine result BeforeAll }
     {
         Machine {
             alloc,
-            keeps,
             stage: Stage::Before,
             current: Body::new(alloc),
             choice: None,
@@ -67,8 +63,7 @@ impl Machine {
 
     /// Takes a token, and tells whether a program goes on with it.
     pub fn take(&mut self, token: Token) -> Result<bool, AllocError>
-        ensures goes { IfOk result (λ goes. (p : Progress) → IsMachine self.old p → MatchOption (progress_step p token) (goes ≡ false) (λ q. (goes ≡ true) × IsMachine self.new q)) }
-        ensures keeps { self.new.keeps ≡ self.old.keeps }
+        ensures { IfOk result (λ goes. (p : Progress) → IsMachine self.old p → MatchOption (progress_step p token) (goes ≡ false) (λ q. (goes ≡ true) × IsMachine self.new q)) }
     {
         match self.stage {
             Stage::Before => match token {
@@ -95,7 +90,7 @@ impl Machine {
 
     /// What has been read, where it is a whole program.
     pub fn finish(self) -> Option<Body>
-        ensures { (p : Progress) → IsMachine self p → FinishesAs self.keeps result p }
+        ensures { (p : Progress) → IsMachine self p → FinishesAs result p }
     {
         match self.stage {
             Stage::Behind => Some(self.current),
@@ -105,13 +100,13 @@ impl Machine {
 
     // An item has been read.
     fn grow(&mut self, item: Item) -> Result<(), AllocError>
-        ensures grown { OnOk result ((b : Blocks) → HasBlocks self.old b → IsMachine self.new (grown item b)) }
-        ensures keeps { self.new.keeps ≡ self.old.keeps }
+        ensures { OnOk result ((b : Blocks) → HasBlocks self.old b → IsMachine self.new (grown item b)) }
     {
         match item {
             Item::Plain(plain) => {
                 self.settle()?;
-                self.current.push_plain(plain, self.keeps)?;
+                let level = self.opens.len();
+                self.current.push_plain(plain, level)?;
                 self.begin();
                 Ok(())
             }
@@ -139,8 +134,7 @@ impl Machine {
 
     // Before the next item.
     fn begin(&mut self)
-        ensures begun { (b : Blocks) → HasBlocks self.old b → IsMachine self.new (begun b) }
-        ensures keeps { self.new.keeps ≡ self.old.keeps }
+        ensures { (b : Blocks) → HasBlocks self.old b → IsMachine self.new (begun b) }
     {
         let behind_if = self.choice.is_some();
         self.stage = Stage::Within(Place::Start { behind_if });
@@ -148,20 +142,19 @@ impl Machine {
 
     // No `else` follows.
     fn settle(&mut self) -> Result<(), AllocError>
-        ensures settled { OnOk result ((b : Blocks) → HasBlocks self.old b → HasBlocks self.new (record { current = settled b; choice = None; frames = b.frames })) }
-        ensures keeps { self.new.keeps ≡ self.old.keeps }
+        ensures { OnOk result ((b : Blocks) → HasBlocks self.old b → HasBlocks self.new (record { current = settled b; choice = None; frames = b.frames })) }
     {
         if let Some((test, first)) = self.choice.take() {
             let second = Body::new(self.alloc);
-            self.current.push_choice(test, first, second, self.keeps)?;
+            let level = self.opens.len();
+            self.current.push_choice(test, first, second, level)?;
         }
         Ok(())
     }
 
     // Opens a block behind the statements so far.
     fn open(&mut self, opening: Opening) -> Result<(), AllocError>
-        ensures opened { OnOk result ((b : Blocks) (opener : Opener) → HasBlocks self.old b → b.choice ≡ None → IsOpening self.old.keeps opening opener → IsMachine self.new (opened b.current opener b.frames)) }
-        ensures keeps { self.new.keeps ≡ self.old.keeps }
+        ensures { OnOk result ((b : Blocks) (opener : Opener) → HasBlocks self.old b → b.choice ≡ None → IsOpening (length b.frames) opening opener → IsMachine self.new (opened b.current opener b.frames)) }
     {
         let before = mem::replace(&mut self.current, Body::new(self.alloc));
         self.opens.push(Open { before, opening })?;
@@ -171,18 +164,18 @@ impl Machine {
 
     // Closes the innermost block.
     fn close(&mut self) -> Result<(), AllocError>
-        ensures closed { OnOk result ((b : Blocks) → HasBlocks self.old b → b.choice ≡ None → IsMachine self.new (closed b.frames b.current)) }
-        ensures keeps { self.new.keeps ≡ self.old.keeps }
+        ensures { OnOk result ((b : Blocks) → HasBlocks self.old b → b.choice ≡ None → IsMachine self.new (closed b.frames b.current)) }
     {
         let Some(Open { before, opening }) = self.opens.pop() else {
             self.stage = Stage::Behind;
             return Ok(());
         };
         let body = mem::replace(&mut self.current, before);
+        let level = self.opens.len();
         match opening {
             Opening::Yes(test) => self.choice = Some((test, body)),
-            Opening::No(test, first) => self.current.push_choice(test, first, body, self.keeps)?,
-            Opening::Turns(count) => self.current.push_turns(count, body, self.keeps)?,
+            Opening::No(test, first) => self.current.push_choice(test, first, body, level)?,
+            Opening::Turns(count) => self.current.push_turns(count, body, level)?,
         }
         self.begin();
         Ok(())

@@ -96,6 +96,14 @@ impl Measure {
         }
     }
 
+    /// Whether the statements are kept inside so many blocks: their numbers can be, and a program may have so many and so deep.
+    pub fn is_kept(self, level: usize) -> bool
+        ensures { result ≡ spec.is_kept level self }
+    {
+        let depth = self.depth.saturating_add(level as u64);
+        self.literals && self.count <= 1000 && self.statements <= 256 && depth <= 8
+    }
+
     /// The first limit that is broken.
     pub fn broken(self) -> Option<Which>
         ensures { result ≡ spec.broken_by self }

@@ -61,7 +61,17 @@ fn sign_front(bytes: &[u8]) -> Front
     }
 }
 
+// Registers are asked for first, since most words are one; no keyword begins as they do.
 fn word_token(names: &Names, word: &[u8]) -> Token
+    ensures { result ≡ spec.word_token names.now word.now }
+{
+    match word {
+        [b'r', ..] => other_word(names, word),
+        _ => keyword_or_name(names, word),
+    }
+}
+
+fn keyword_or_name(names: &Names, word: &[u8]) -> Token
     ensures { result ≡ spec.word_token names.now word.now }
 {
     if same_bytes(word, b"if") {

@@ -1,4 +1,4 @@
-ghost use Rattle.std.specs.Prelude.{◌≡◌, ◌^◌, ◌<◌, [], ◌∷◌, length, slice_get, MatchOption};
+ghost use Rattle.std.specs.Prelude.{◌≡◌, ◌^◌, ◌<◌, [], ◌∷◌, length, MatchOption};
 ghost use Rattle.txn_tokens.specs.Tokens.{tokens};
 
 use crate::byte_kind::{ByteKind, run_len};
@@ -37,22 +37,6 @@ impl<'a> Tokens<'a> {
             rest: bytes,
             at: 0,
         }
-    }
-
-    /// The next token.
-    pub fn peek(&self) -> Option<Placed>
-        ensures { result ≡ slice_get self.now 0 }
-    {
-        let blanks = run_len(self.rest, ByteKind::Blank);
-        let (_, rest) = self.rest.split_at(blanks);
-        if rest.is_empty() {
-            return None;
-        }
-        let front = front_of(self.names, rest);
-        Some(Placed {
-            at: self.at + blanks,
-            token: front.token,
-        })
     }
 
     /// Takes the next token. Where there is none, none is left.

@@ -8,9 +8,9 @@ use Rattle.txn_syntax.proofs.read.read_program.Goals as goal
 pub new-requires-2 : goal.new-requires-2
 new-requires-2 c =
     subst IsProgram (sym c.new.ensures)
-    (is_program c.args.names.now c.args.bytes.now c.in_ok-judged.judged c.in_ok-body.body c.in_ok-judged.ensures c.in_ok-body.ensures (sym c.broken.ensures ∙ none_of c.broken.result c.in_default-broken.not-Some)).0
+    (is_program c.args.names.now c.args.bytes.now c.in_ok-body.body c.in_ok-body.ensures.body (sym c.broken.ensures ∙ none_of c.broken.result c.in_default-broken.not-Some)).0
 
 pub returns-clause-within : goal.returns-clause-within
 returns-clause-within c =
     subst (λ b. reach b ≤ items_of c.args.names.now) (sym (c.new-2.ensures ∙ c.new.ensures))
-    (is_program c.args.names.now c.args.bytes.now c.in_ok-judged.judged c.in_ok-body.body c.in_ok-judged.ensures c.in_ok-body.ensures (sym c.broken.ensures ∙ none_of c.broken.result c.in_default-broken.not-Some)).1
+    (is_program c.args.names.now c.args.bytes.now c.in_ok-body.body c.in_ok-body.ensures.body (sym c.broken.ensures ∙ none_of c.broken.result c.in_default-broken.not-Some)).1
