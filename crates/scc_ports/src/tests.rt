@@ -91,14 +91,19 @@ fn a_sink_that_drops_bytes_says_so(rt: HostRuntime) -> Result<(), Fail> {
     Ok(())
 }
 
-// A reader and a writer that fail once, at this call.
+// A reader and a writer that fail once, at this call, with this error, or where there is none by a write that takes nothing.
 #[derive(Drop)]
 struct Broken {
     calls: u32,
     at: u32,
+    kind: Option<io::ErrorKind>,
 }
 
 impl Broken {
+    fn at_call(at: u32, kind: Option<io::ErrorKind>) -> Broken {
+        Broken { calls: 0, at, kind }
+    }
+
     fn next_fails(&mut self) -> bool {
         self.calls = self.calls.saturating_add(1);
         self.calls == self.at
@@ -108,7 +113,7 @@ impl Broken {
 impl Read for Broken {
     fn read(&mut self, buf: &mut [u8]) -> io::Result<usize> {
         if self.next_fails() {
-            return Err(io::Error::from(io::ErrorKind::Interrupted));
+            return Err(io::Error::from(self.kind.unwrap_or(io::ErrorKind::WriteZero)));
         }
         buf.fill(b'x');
         Ok(buf.len())
@@ -118,7 +123,10 @@ impl Read for Broken {
 impl Write for Broken {
     fn write(&mut self, buf: &[u8]) -> io::Result<usize> {
         if self.next_fails() {
-            return Ok(0);
+            return match self.kind {
+                Some(kind) => Err(io::Error::from(kind)),
+                None => Ok(0),
+            };
         }
         Ok(buf.len())
     }
@@ -128,15 +136,46 @@ impl Write for Broken {
     }
 }
 
+// Errors after which a reader or a writer might be called again.
+const KINDS: [io::ErrorKind; 4] = [
+    io::ErrorKind::Interrupted,
+    io::ErrorKind::WouldBlock,
+    io::ErrorKind::TimedOut,
+    io::ErrorKind::Other,
+];
+
 #[test]
-fn adapters_hand_faults_on(rt: HostRuntime) -> Result<(), Fail> {
-    let mut source = ReadSource::new(Broken { calls: 0, at: 2 });
-    let given = read_parts(rt.alloc(), &mut source, 3)?;
-    assert_eq!(rt; given.as_slice(), b"xxxx|!|xxxx|".as_slice());
-    let mut sink = WriteSink::new(Broken { calls: 0, at: 2 });
-    assert_eq!(rt; sink.write(b"ab"), Ok(2));
-    assert_eq!(rt; sink.write(b"ab"), Err(Failed));
-    assert_eq!(rt; write_all(&mut sink, b"ab"), Ok(()));
+fn each_error_of_a_reader_is_handed_on_and_counted(rt: HostRuntime) -> Result<(), Fail> {
+    for kind in KINDS {
+        let mut source = ReadSource::new(Broken::at_call(2, Some(kind)));
+        let given = read_parts(rt.alloc(), &mut source, 3)?;
+        assert_eq!(rt; given.as_slice(), b"xxxx|!|xxxx|".as_slice());
+        assert_eq!(rt; source.faults, 1);
+        assert_eq!(rt; source.inner.calls, 3);
+    }
+    Ok(())
+}
+
+#[test]
+fn each_error_of_a_writer_is_handed_on_and_counted(rt: HostRuntime) -> Result<(), Fail> {
+    let kinds = [
+        Some(KINDS[0]),
+        Some(KINDS[1]),
+        Some(KINDS[2]),
+        Some(KINDS[3]),
+        None,
+    ];
+    for kind in kinds {
+        let mut sink = WriteSink::new(Broken::at_call(2, kind));
+        assert_eq!(rt; sink.write(b"ab"), Ok(2));
+        assert_eq!(rt; sink.write(b"ab"), Err(Failed));
+        assert_eq!(rt; write_all(&mut sink, b"ab"), Ok(()));
+        assert_eq!(rt; sink.faults, 1);
+        assert_eq!(rt; sink.inner.calls, 3);
+    }
+    let mut kept = WriteSink::new(Vec::new(rt.alloc()));
+    assert_eq!(rt; write_all(&mut kept, b"abcd"), Ok(()));
+    assert_eq!(rt; kept.inner.as_slice(), b"abcd".as_slice());
     OpenGate.pass(1, 1);
     Ok(())
 }
