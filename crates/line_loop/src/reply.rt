@@ -1,9 +1,9 @@
 // A reply, made whole and then handed to the sink as one piece.
-ghost use Rattle.std.specs.Prelude.{◌≡◌, ◌≤◌, ◌<◌, ◌+◌, ℕ, List, [], ◌++◌, length, OnOk, OnErr, IfErr};
+ghost use Rattle.std.specs.Prelude.{◌≡◌, ◌≤◌, ◌<◌, ◌-◌, ℕ, List, [], length, OnOk, OnErr, IfOk, IfErr};
 ghost use Rattle.scc_ports.specs.Ports.{Gains, GainsPrefix};
-ghost use Rattle.line_loop.specs.Meaning.{IsBreak};
+ghost use Rattle.line_loop.specs.Account.{Replied, Broke, EndBroke, IsBreak};
 
-use crate::{Ending, Machine};
+use crate::{Ending, Flow, Machine};
 use scc_ports::{Sink, write_all};
 use std::sync::ledger::Ledger;
 use step_count::Steps;
@@ -15,21 +15,20 @@ pub fn answer_line<M: Machine, K: Sink, L: Ledger>(
     out: &mut Vec<u8>,
     sink: &mut K,
     steps: &mut Steps<L>,
-) -> Result<(), Ending>
-    requires { length line.now ≤ 8192 }
-    ensures next { OnOk result (machine.new ≡ M.next machine.old line.now) }
-    ensures wrote { OnOk result (Gains (K.written sink.old) (K.written sink.new) (M.reply machine.old line.now)) }
-    ensures ticks { OnOk result (steps.new ≡ steps.old + M.ticks machine.old line.now) }
-    ensures most { (steps.old ≤ steps.new) × (steps.new ≤ steps.old + M.ticks machine.old line.now) }
-    ensures broke { IfErr result (IsBreak (K.faults sink.old) (K.faults sink.new)) }
-    ensures part { OnErr result (GainsPrefix (K.written sink.old) (K.written sink.new) (M.reply machine.old line.now)) }
+) -> Result<Flow, Ending>
+    requires { length line.now ≤ M.most }
+    ensures ok { IfOk result (λ flow. Replied M.answers flow machine.old line.now (steps.new - steps.old) machine.new (K.written sink.old) (K.written sink.new)) }
+    ensures err { IfErr result (λ status. Broke M.answers M.fails status machine.old line.now (steps.new - steps.old) machine.new (K.written sink.old) (K.written sink.new)) }
+    ensures steps_later { steps.old ≤ steps.new }
+    ensures cause { IfErr result (IsBreak (K.faults sink.old) (K.faults sink.new)) }
     ensures later { K.faults sink.old ≤ K.faults sink.new }
 {
     out.clear();
-    if machine.answer(line, out, steps).is_err() {
+    let Ok(flow) = machine.answer(line, out, steps) else {
         return Err(Ending::OutOfMemory);
-    }
-    write_reply(sink, out)
+    };
+    write_reply(sink, out)?;
+    Ok(flow)
 }
 
 /// Answers a line that is too long.
@@ -37,19 +36,18 @@ pub fn answer_too_long<M: Machine, K: Sink>(
     machine: &mut M,
     out: &mut Vec<u8>,
     sink: &mut K,
-) -> Result<(), Ending>
-    ensures wrote { OnOk result ((line : List ℕ) → 8192 < length line →
-        (machine.new ≡ M.next machine.old line) × Gains (K.written sink.old) (K.written sink.new) (M.reply machine.old line) × (M.ticks machine.old line ≡ 0)) }
-    ensures broke { IfErr result (IsBreak (K.faults sink.old) (K.faults sink.new)) }
-    ensures part { OnErr result ((line : List ℕ) → 8192 < length line →
-        GainsPrefix (K.written sink.old) (K.written sink.new) (M.reply machine.old line) × (M.ticks machine.old line ≡ 0)) }
+) -> Result<Flow, Ending>
+    ensures ok { IfOk result (λ flow. (line : List ℕ) → M.most < length line → Replied M.answers flow machine.old line 0 machine.new (K.written sink.old) (K.written sink.new)) }
+    ensures err { IfErr result (λ status. (line : List ℕ) → M.most < length line → Broke M.answers M.fails status machine.old line 0 machine.new (K.written sink.old) (K.written sink.new)) }
+    ensures cause { IfErr result (IsBreak (K.faults sink.old) (K.faults sink.new)) }
     ensures later { K.faults sink.old ≤ K.faults sink.new }
 {
     out.clear();
-    if machine.answer_too_long(out).is_err() {
+    let Ok(flow) = machine.answer_too_long(out) else {
         return Err(Ending::OutOfMemory);
-    }
-    write_reply(sink, out)
+    };
+    write_reply(sink, out)?;
+    Ok(flow)
 }
 
 /// Writes the lines at the end of the input.
@@ -58,9 +56,9 @@ pub fn finish<M: Machine, K: Sink>(
     out: &mut Vec<u8>,
     sink: &mut K,
 ) -> Result<(), Ending>
-    ensures wrote { OnOk result (Gains (K.written sink.old) (K.written sink.new) (M.ending machine.now)) }
-    ensures broke { IfErr result (IsBreak (K.faults sink.old) (K.faults sink.new)) }
-    ensures part { OnErr result (GainsPrefix (K.written sink.old) (K.written sink.new) (M.ending machine.now)) }
+    ensures ok { OnOk result ((text : List ℕ) × M.ends machine.now text × Gains (K.written sink.old) (K.written sink.new) text) }
+    ensures err { IfErr result (λ status. EndBroke M.ends status machine.now (K.written sink.old) (K.written sink.new)) }
+    ensures cause { IfErr result (IsBreak (K.faults sink.old) (K.faults sink.new)) }
     ensures later { K.faults sink.old ≤ K.faults sink.new }
 {
     out.clear();
@@ -73,7 +71,8 @@ pub fn finish<M: Machine, K: Sink>(
 // Hands a reply to the sink.
 fn write_reply<K: Sink>(sink: &mut K, reply: &[u8]) -> Result<(), Ending>
     ensures wrote { OnOk result (Gains (K.written sink.old) (K.written sink.new) reply.now) }
-    ensures broke { IfErr result (IsBreak (K.faults sink.old) (K.faults sink.new)) }
+    ensures fault { IfErr result (λ status. status ≡ Ending.WriteFault) }
+    ensures cause { IfErr result (IsBreak (K.faults sink.old) (K.faults sink.new)) }
     ensures part { OnErr result (GainsPrefix (K.written sink.old) (K.written sink.new) reply.now) }
     ensures later { K.faults sink.old ≤ K.faults sink.new }
 {
