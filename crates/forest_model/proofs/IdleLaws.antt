@@ -91,7 +91,7 @@ run-of f n (Some row) more e h each =
       ends = λ le. rest.ends (omega (arith, one.lower));
     }
 
-no_pick : (f : Forest) (o : Option Row) → pick f ≡ o → IsSound f → work f ≤ 0 → pick f ≡ None
+pub no_pick : (f : Forest) (o : Option Row) → pick f ≡ o → IsSound f → work f ≤ 0 → pick f ≡ None
 no_pick f None e h le = e
 no_pick f (Some row) e h le = absurd (omega (arith, (pick-step f row h e).lower))
 

@@ -4,6 +4,7 @@ pub mod StartedLaws
 pub mod SettleLaws
 pub mod FirstLaws
 pub mod EventLaws
+pub mod LongerLaws
 pub mod StepLaws
 pub mod PointLaws
 pub mod CommitLaws
@@ -24,6 +25,9 @@ pub mod OriginLaws
 pub mod KeepLaws
 pub mod GateLaws
 pub mod RunEvents
+pub mod UntilLaws
+pub mod StayLaws
+pub mod GuardLaws
 mod WrongRules
 mod Leads
 mod WorkedConflicts

@@ -33,7 +33,7 @@ abbrev MayStep : Role → Standing → List Shadow → List Conflict → Type 0
 MayStep Optimistic standing ss ws = Unit {0}
 MayStep (Guard u) standing ss ws = is_runnable standing ≡ true → is_ok (step_guard u ss ws) ≡ true
 
-abbrev IsNot : ℕ → Role → Type 0
+abbrev pub IsNot : ℕ → Role → Type 0
 IsNot u Optimistic = Unit {0}
 IsNot u (Guard v) = u ≢ v
 
@@ -50,7 +50,7 @@ if_runnable-ok Runnable a h = refl
 if_runnable-ok Blocked a h = cc
 if_runnable-ok Ended a h = cc
 
-guards-not : (u t deadline place : ℕ) (ss : List Shadow) (ws : List Conflict) → AllZip StandsFor ss ws → AllByRecursion (λ x. u ≢ x.0) ws → AllByRecursion (λ (row : Row). IsNot u row.role) (guard_rows t deadline place ss ws)
+pub guards-not : (u t deadline place : ℕ) (ss : List Shadow) (ws : List Conflict) → AllZip StandsFor ss ws → AllByRecursion (λ x. u ≢ x.0) ws → AllByRecursion (λ (row : Row). IsNot u row.role) (guard_rows t deadline place ss ws)
 guards-not u t deadline place [] ws fits apart = tt
 guards-not u t deadline place (s ∷ ss) [] fits apart = tt
 guards-not u t deadline place (s ∷ ss) (w ∷ ws) fits apart = ((λ e. apart.0 (e ∙ fits.0.0)), guards-not u t deadline (suc place) ss ws fits.1 apart.1)
@@ -68,10 +68,10 @@ guard_rows-step t deadline place (s ∷ ss) (w ∷ ws) fits apart = (
 )
 
 -- the rows of r's other shadows are of r, and of no optimistic shadow
-abbrev IsOf : ℕ → Row → Type 0
+abbrev pub IsOf : ℕ → Row → Type 0
 IsOf t row = (row.txn ≡ t) × ((u : ℕ) × (row.role ≡ Guard u))
 
-guard_rows-of : (t deadline place : ℕ) (ss : List Shadow) (ws : List Conflict) → AllByRecursion (IsOf t) (guard_rows t deadline place ss ws)
+pub guard_rows-of : (t deadline place : ℕ) (ss : List Shadow) (ws : List Conflict) → AllByRecursion (IsOf t) (guard_rows t deadline place ss ws)
 guard_rows-of t deadline place [] ws = tt
 guard_rows-of t deadline place (s ∷ ss) [] = tt
 guard_rows-of t deadline place (s ∷ ss) (w ∷ ws) = ((refl, (s.guard, refl)), guard_rows-of t deadline (suc place) ss ws)

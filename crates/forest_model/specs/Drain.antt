@@ -66,6 +66,25 @@ drain_by f None None = (Nothing, f)
 abbrev pub drain_step : Forest → Did × Forest
 drain_step f = drain_by f (first_ended f) (pick f)
 
+-- The steps of a drain up to its next commit.
+
+-- a shadow's step, and then more; else as it was
+abbrev pub until_from : Did → Forest → Forest → (Forest → ℕ × Forest) → ℕ × Forest
+until_from (Committed t) f g more = (0, f)
+until_from (Stepped t role) f g more = counted (more g)
+until_from Nothing f g more = (0, f)
+
+-- at most so many steps of a drain, as long as they are steps of shadows
+abbrev pub until_within : ℕ → Forest → ℕ × Forest
+until_within zero f = (0, f)
+until_within (suc n) f = until_from (drain_step f).0 f (drain_step f).1 (until_within n)
+
+-- the steps of a drain before its next commit, or before nothing is left to do: their number, and the forest after them
+abbrev pub until_commit : Forest → ℕ × Forest
+until_commit f = until_within (work f) f
+
+-- Under a gate.
+
 -- the state of the shadow of this row
 abbrev pub state_of : Forest → Row → Running
 state_of f row = after (program_of f.journal row.txn) f.tables (position_at row.place (find_started f.started row.txn))

@@ -8,11 +8,13 @@ pub mod Start
 pub mod Pick
 pub mod Sound
 pub mod Events
+pub mod Grown
 pub mod Jobs
 pub mod World
 pub mod Work
 pub mod Origin
 pub mod Drain
+pub mod Stays
 pub mod Laws
 pub mod Programs
 pub mod Told

@@ -1,10 +1,10 @@
 // The laws of the definitions. Each function stands for the clauses of its contract, and does nothing.
 
-ghost use Rattle.std.specs.Prelude.{◌≡◌, ◌≢◌, ◌<◌, ◌≤◌, ◌+◌, ◌-◌, ◌^◌, ◌++◌, ℕ, suc, min, List, Option, Ok, Some, None, true, false, length, map, IfOk, IfSome, IsTrue, is_ok, is_some, find, nat_le, option_map};
+ghost use Rattle.std.specs.Prelude.{◌≡◌, ◌≢◌, ◌<◌, ◌≤◌, ◌+◌, ◌-◌, ◌^◌, ◌++◌, ℕ, suc, min, List, [], ◌∷◌, Option, Ok, Some, None, true, false, length, map, IfOk, IfSome, IsTrue, is_ok, is_some, find, nat_le, option_map};
 ghost use Rattle.std.specs.List.{AllByRecursion, list_any};
 ghost use Rattle.std.specs.List.Sorted.{IsPermutation, IsSortedBy};
 ghost use Rattle.txn_runs.specs.Bounds.{steps_max};
-ghost use Rattle.txn_runs.specs.Run.{Tables};
+ghost use Rattle.txn_runs.specs.Run.{Tables, after};
 ghost use Rattle.txn_runs.specs.Serial.{outcome_of, outcomes, last_tables};
 ghost use Rattle.txn_runs.specs.declared.program.Program.{Program};
 ghost use Rattle.block_rule.specs.declared.role.Role.{Role};
@@ -13,6 +13,7 @@ ghost use Rattle.block_rule.specs.declared.role.Row.{Row};
 ghost use Rattle.txn_runs.specs.Kind.{kind_of};
 ghost use Rattle.txn_runs.specs.declared.kind.Kind.TheVariants.{Ended};
 ghost use Rattle.forest_model.specs.declared.did.Did.TheVariants.{Committed, Stepped, Nothing};
+ghost use Rattle.journal_core.specs.declared.entry.Entry.TheVariants.{Withdrawn};
 ghost use Rattle.journal_core.specs.Journal.{is_live, replies, committed_programs};
 ghost use Rattle.forest_model.specs.Runs.{is_done, is_local};
 ghost use Rattle.forest_model.specs.Forest.{Started, Forest, program, length_of, point_of, wanted, find_started};
@@ -22,18 +23,20 @@ ghost use Rattle.forest_model.specs.Settle.{stands_for, positions_in, settled_sh
 ghost use Rattle.forest_model.specs.Cut.{survives, survivors, heir, resumed_by, after_cut};
 ghost use Rattle.forest_model.specs.Origin.{is_kept, furthest, origin, successor, position_of, placed, placed_of, AreApart, from_origin, waiting_at};
 ghost use Rattle.forest_model.specs.Pick.{pick};
+ghost use Rattle.forest_model.specs.Stays.{stays_on};
 ghost use Rattle.forest_model.specs.Sound.{IsSound, IsIdle, IsHome, is_wanted, last_point, LeavesLists, KeepsStarted, KeepsOthers};
 ghost use Rattle.forest_model.specs.Events.{begin, seal, step, commit, withdraw, cut, resumes, others_cut};
+ghost use Rattle.forest_model.specs.Grown.{IsGrown, IsLonger, HasBegun, commit_entry, seal_entries};
 ghost use Rattle.forest_model.specs.Jobs.{Job, is_out_at, moved, take_pick, recall, give};
 ghost use Rattle.forest_model.specs.World.{World, Held, Event, Recall, happens, all_happen, opened, IsHeld, IsFit};
 ghost use Rattle.forest_model.specs.Work.{work};
-ghost use Rattle.forest_model.specs.Drain.{run_from, run_idle, after_commit, step_row, first_ended, state_of, gate_step, drain_from, drain_step, drain_rest, drain};
+ghost use Rattle.forest_model.specs.Drain.{run_from, run_idle, after_commit, step_row, first_ended, state_of, gate_step, drain_from, drain_step, drain_rest, drain, until_from, until_commit};
 ghost use Rattle.forest_model.specs.Laws.{Survival, JobsLand, IsCommitted, IsReset, StandsAt, is_step, is_step_or_commit};
 
 /// Each event keeps soundness, from any sound forest, for every number of shadows and lanes. In a sound forest each
 /// started transaction has its optimistic shadow and at most k shadows in all, and where its optimistic shadow has
 /// run to the end its commit is never refused. The committed outcomes and the present tables are those of the committed
-/// programs, run alone one after another in the order of the journal.
+/// programs, run alone one after another in the order of the journal. Where nobody is started nobody is live.
 pub fn soundness()
     ensures begins { (f : Forest) (p : Program) (deadline : ℕ) → IsSound f → IfOk (begin f p deadline) (λ answer. IsSound answer.1) }
     ensures seals { (f : Forest) → IsSound f → IsSound (seal f) }
@@ -45,7 +48,27 @@ pub fn soundness()
     ensures recalls { (f : Forest) → IsSound f → IsSound (recall f) }
     ensures few { (f : Forest) → IsSound f → 1 ≤ f.k → AllByRecursion (λ r. suc (length r.shadows) ≤ f.k) f.started }
     ensures serial { (f : Forest) → IsSound f → (replies f.journal ≡ outcomes f.opening (committed_programs f.journal)) × (f.tables ≡ last_tables f.opening (committed_programs f.journal)) }
+    ensures nobody { (f : Forest) (t : ℕ) → IsSound f → 1 ≤ f.lanes → f.started ≡ [] → is_live f.journal t ≡ false }
     ensures never_refused { (f : Forest) (t : ℕ) (u : Started) → is_live f.journal t ≡ true → find_started f.started t ≡ Some u → u.position ≡ length_of f u → IsTrue (is_ok (commit f t)) }
+{}
+
+/// Each event keeps the opening tables and only lengthens the journal, by the entry that it records if it records one, and so does
+/// each list of events, also a refused one among them, and each run and drain.
+pub fn growing()
+    ensures begins { (f : Forest) (p : Program) (deadline : ℕ) → IfOk (begin f p deadline) (λ answer. HasBegun f answer.1 answer.0 deadline p) }
+    ensures seals { (f : Forest) → IsGrown f (seal f) (seal_entries f) }
+    ensures steps { (f : Forest) (t : ℕ) (role : Role) → IfOk (step f t role) (λ answer. IsGrown f answer.1 []) }
+    ensures commits { (f : Forest) (t : ℕ) → IfOk (commit f t) (λ g. IsGrown f g (commit_entry f t ∷ [])) }
+    ensures withdraws { (f : Forest) (t : ℕ) → IfOk (withdraw f t) (λ g. IsGrown f g (Withdrawn t ∷ [])) }
+    ensures takes { (f : Forest) → IsGrown f (take_pick f) [] }
+    ensures gives { (f : Forest) (job : Job) → IfSome (give f job) (λ g. IsGrown f g []) }
+    ensures recalls { (f : Forest) → IsGrown f (recall f) [] }
+    ensures event { (w : World) (e : Event) → IsLonger w.forest (happens w e).forest }
+    ensures events { (w : World) (events : List Event) → IsLonger w.forest (all_happen events w).forest }
+    ensures runs { (f : Forest) → IsGrown f (run_idle f).1 [] }
+    ensures gates { (f : Forest) → IsLonger f (gate_step f).1 }
+    ensures drain_steps { (f : Forest) → IsLonger f (drain_step f).1 }
+    ensures drains { (f : Forest) → IsLonger f (drain f).1 }
 {}
 
 /// Jobs: whatever events there are and however many jobs are out, the forest stays sound and each job stays a run of
@@ -113,12 +136,25 @@ pub fn idling()
     ensures fits { (f : Forest) → IsSound f → f.k ≤ 8 → f.lanes ≤ 64 → AllByRecursion (λ r. steps_max (program f r) ≤ 100000) f.started → (run_idle f).0 < 2 ^ 64 }
 {}
 
-/// A drain is a recall and then a list of commits and steps, until nothing is left to do. Afterwards nobody is live.
+/// The pick stays. After a local step of an optimistic shadow that was picked, which has not ended by it, it is picked again; and
+/// so is a shadow that waits, after any step by which it does not come to its point. Nobody comes to an end by these steps.
+pub fn staying()
+    ensures optimistic { (f : Forest) (row : Row) (r : Started) → IsSound f → pick f ≡ Some row → row.role ≡ Optimistic → find_started f.started row.txn ≡ Some r → is_local (after (program f r) f.tables r.position) ≡ true → suc r.position < length_of f r → pick (step_row f row) ≡ Some row }
+    ensures guard { (f : Forest) (row : Row) (u : ℕ) (r : Started) → IsSound f → pick f ≡ Some row → row.role ≡ Guard u → find_started f.started row.txn ≡ Some r → stays_on u r.shadows (wanted f r) ≡ true → pick (step_row f row) ≡ Some row }
+    ensures local_ends_nobody { (f : Forest) (row : Row) (r : Started) → IsSound f → pick f ≡ Some row → row.role ≡ Optimistic → find_started f.started row.txn ≡ Some r → is_local (after (program f r) f.tables r.position) ≡ true → suc r.position < length_of f r → first_ended (step_row f row) ≡ first_ended f }
+    ensures guard_ends_nobody { (f : Forest) (row : Row) (u : ℕ) (r : Started) → IsSound f → pick f ≡ Some row → row.role ≡ Guard u → find_started f.started row.txn ≡ Some r → first_ended (step_row f row) ≡ first_ended f }
+{}
+
+/// A drain is a recall and then a list of commits and steps, until nothing is left to do. Afterwards nobody is live. After its steps
+/// up to the next commit somebody has ended or there is no pick, and it goes on from there.
 pub fn draining()
     ensures unrolled { (f : Forest) → IsSound f → drain_rest f ≡ drain_from (drain_step f).0 (drain_step f).1 drain_rest }
     ensures sound { (f : Forest) → IsSound f → IsSound (drain f).1 }
     ensures events { (w : World) → (es : List Event) × ((all_happen es (happens w Recall) ≡ record w { forest = (drain w.forest).1 }) × AllByRecursion (λ e. is_step_or_commit e ≡ true) es) }
     ensures empty { (f : Forest) (t : ℕ) → IsSound f → 1 ≤ f.lanes → is_live (drain f).1.journal t ≡ false }
+    ensures until { (f : Forest) → IsSound f → until_commit f ≡ until_from (drain_step f).0 f (drain_step f).1 until_commit }
+    ensures stops { (f : Forest) → IsSound f → first_ended (until_commit f).1 ≡ None → pick (until_commit f).1 ≡ None }
+    ensures goes_on { (f : Forest) → IsSound f → drain_rest f ≡ ((until_commit f).0 + (drain_rest (until_commit f).1).0, (drain_rest (until_commit f).1).1) }
 {}
 
 /// One step under a gate: the commit of the first by priority that has ended, and it is accepted; else the pick's step,

@@ -10,8 +10,8 @@ mod wrong;
 
 pub use did::Did;
 pub use laws::{
-    draining, gating, idling, jobs, origins, reset, resuming, soundness, survival, untouched,
-    wanting,
+    draining, gating, growing, idling, jobs, origins, reset, resuming, soundness, staying,
+    survival, untouched, wanting,
 };
 pub use worked::{worked_conflicts, worked_lists, worked_orders, worked_reads};
 pub use wrong::wrong_rules;

@@ -1,3 +1,4 @@
 pub mod Lists
 pub mod Legal
 pub mod Standing
+pub mod Begins

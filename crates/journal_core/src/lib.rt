@@ -11,8 +11,5 @@ mod reply;
 
 pub use entry::Entry;
 pub use journal::Journal;
-pub use laws::legal_journals;
+pub use laws::{begun_programs, commits_with_outcomes, legal_journals, longer_journals};
 pub use reply::put_reply;
-
-#[cfg(test)]
-mod tests;

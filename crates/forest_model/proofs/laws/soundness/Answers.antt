@@ -9,6 +9,7 @@ use Rattle.forest_model.specs.Sound.{IsSound}
 use Rattle.journal_core.proofs.Legal.{replies-serial}
 use Rattle.forest_model.proofs.Lists.{either}
 use Rattle.forest_model.proofs.EventLaws.{begin-sound, seal-sound}
+use Rattle.forest_model.proofs.LongerLaws.{none-live}
 use Rattle.forest_model.proofs.StepLaws.{step-sound, take-sound, recall-sound}
 use Rattle.forest_model.proofs.CommitLaws.{commit-sound, withdraw-sound}
 use Rattle.forest_model.proofs.GiveLaws.{give-sound}
@@ -40,5 +41,6 @@ returns c = record {
   recalls = recall-sound;
   few = few-shadows;
   serial = λ f h. (replies-serial f.opening f.journal h.right.legal, h.right.serial);
+  nobody = none-live;
   never_refused = commit-accepted;
 }
