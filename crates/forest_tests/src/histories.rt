@@ -1,15 +1,17 @@
 use crate::history::Act::{
-    Begin, Commit, Drain, DrainStep, Holds, Lives, NoBegin, NoCommit, NoStep, NoWithdraw, Run,
-    Seal, Show, Step, Tells, Withdraw,
+    Begin, Commit, Drain, DrainStep, Gate, Give, Holds, Lives, Local, NoBegin, NoCommit, NoStep,
+    NoWithdraw, Run, Seal, Show, Step, Take, Tells, Withdraw,
 };
 use crate::history::History;
 use block_rule::Role::{Guard, Optimistic};
 use block_rule::Standing::{Blocked, Ended, Runnable};
-use shadow_forest::{BeginRefusal, CommitRefusal, Did, Life, Resumed, Stepped, WithdrawRefusal};
+use shadow_forest::{
+    BeginRefusal, CommitRefusal, Did, Given, Job, Life, Resumed, Stepped, WithdrawRefusal,
+};
 
 const ZEROS: [i64; 4] = [0, 0, 0, 0];
 
-pub const HISTORIES: [History; 15] = [
+pub const HISTORIES: [History; 17] = [
     History {
         name: "a restart",
         k: 1,
@@ -434,5 +436,77 @@ pub const HISTORIES: [History; 15] = [
         ],
         last: [5, 0, 0, 0],
         order: &[2],
+    },
+    History {
+        name: "a stale job and a job of now",
+        k: 1,
+        lanes: 2,
+        opening: ZEROS,
+        acts: &[
+            Begin(
+                10,
+                "{ r0 = a[0]; r1 = r0 + 1; r2 = r1 + 1; r3 = r2 + 1; emit r3; }",
+                Life::Started,
+            ),
+            Step(1, Optimistic, 1),
+            Step(1, Optimistic, 2),
+            Step(1, Optimistic, 3),
+            Take(0, Some(Job { txn: 1, from: 3 })),
+            Begin(20, "{ a[0] = 5; }", Life::Started),
+            Step(2, Optimistic, 1),
+            Commit(
+                2,
+                "commit 2 done\n",
+                &[Resumed {
+                    txn: 1,
+                    position: 0,
+                }],
+                None,
+            ),
+            Step(1, Optimistic, 1),
+            Step(1, Optimistic, 2),
+            Step(1, Optimistic, 3),
+            Take(1, Some(Job { txn: 1, from: 3 })),
+            Local(0, 2, 2),
+            Local(1, 2, 2),
+            Give(0, Given::Gone),
+            Give(1, Given::Stored),
+            Show(1, &[(Optimistic, 5, None, Ended)]),
+            Commit(1, "commit 1 done 8\n", &[], None),
+            Take(2, None),
+        ],
+        last: [5, 0, 0, 0],
+        order: &[2, 1],
+    },
+    History {
+        name: "steps under a gate",
+        k: 1,
+        lanes: 1,
+        opening: [4, 0, 0, 0],
+        acts: &[
+            Begin(10, "{ r1 = 1 + 1; r0 = a[0]; a[1] = r0; }", Life::Started),
+            Begin(20, "{ }", Life::Waiting),
+            Gate(Did::Nothing, None),
+            Step(1, Optimistic, 1),
+            Gate(
+                Did::Stepped {
+                    txn: 1,
+                    role: Optimistic,
+                },
+                None,
+            ),
+            Gate(
+                Did::Stepped {
+                    txn: 1,
+                    role: Optimistic,
+                },
+                None,
+            ),
+            Gate(Did::Committed { txn: 1 }, Some(2)),
+            Gate(Did::Committed { txn: 2 }, None),
+            Gate(Did::Nothing, None),
+        ],
+        last: [4, 4, 0, 0],
+        order: &[1, 2],
     },
 ];

@@ -1,12 +1,13 @@
 // Worked histories as data, and how they are played on a forest.
 ghost use Rattle.std.specs.Prelude.{◌≡◌};
 
-use crate::opening::{begin, one_table, open_forest};
+use crate::opening::{begin, one_table};
+use crate::stage::Stage;
 use crate::watch::is_right;
 use block_rule::{Role, Standing};
 use journal_core::{Entry, put_reply};
 use shadow_forest::{
-    BeginRefusal, CommitRefusal, Did, Forest, Life, Resumed, Stepped, WithdrawRefusal,
+    BeginRefusal, CommitRefusal, Did, Forest, Given, Job, Life, Resumed, Stepped, WithdrawRefusal,
 };
 use std::alloc::{AllocError, Global};
 use std::sync::ledger::{Blank, Ledger};
@@ -41,6 +42,14 @@ pub enum Act {
     /// So many steps are made until there is no pick.
     Run(u64),
     DrainStep(Did, Option<u32>),
+    /// A step under a gate, and whom it started.
+    Gate(Did, Option<u32>),
+    /// What a bench takes.
+    Take(usize, Option<Job>),
+    /// A bench's job makes at most so many steps, and makes this many.
+    Local(usize, u32, u32),
+    /// A bench gives its job back.
+    Give(usize, Given),
     Drain,
     /// The shadows of a transaction.
     Show(u32, &'static [Look]),
@@ -72,17 +81,30 @@ pub fn first_wrong<L: Ledger>(
 {
     let names = one_table(alloc)?;
     let mut steps = Steps::<L>::new(blank);
-    let Some(mut forest) = open_forest(alloc, &history.opening, history.k, history.lanes)? else {
+    let Some(mut stage) = Stage::open(alloc, &history.opening, history.k, history.lanes)? else {
         return Ok(Some(0));
     };
+    plays(alloc, &names, &mut stage, history, &mut steps)
+}
+
+// The place of the first act of which something else comes. The loop stands apart from what owns the forest, which is proved sooner
+// so.
+fn plays<L: Ledger>(
+    alloc: Global,
+    names: &Names,
+    stage: &mut Stage,
+    history: &History,
+    steps: &mut Steps<L>,
+) -> Result<Option<usize>, Fail> {
     for place in 0..history.acts.len() {
         let act = &history.acts[place];
-        if !does(alloc, &names, &mut forest, act, &mut steps)? || !is_right(alloc, &forest)? {
+        if !does(alloc, names, stage, act, steps)? || !is_right(alloc, stage.forest())? {
             return Ok(Some(place));
         }
     }
-    if forest.table().row(0, forest.table().len()) != history.last.as_slice()
-        || commits(alloc, &forest)?.as_slice() != history.order
+    let table = stage.forest().table();
+    if table.row(0, table.len()) != history.last.as_slice()
+        || commits(alloc, stage.forest())?.as_slice() != history.order
     {
         return Ok(Some(history.acts.len()));
     }
@@ -105,43 +127,49 @@ fn commits(alloc: Global, forest: &Forest) -> Result<Vec<u32>, AllocError> {
 fn does<L: Ledger>(
     alloc: Global,
     names: &Names,
-    forest: &mut Forest,
+    stage: &mut Stage,
     act: &Act,
     steps: &mut Steps<L>,
 ) -> Result<bool, Fail> {
     Ok(match act {
         Act::Begin(deadline, text, life) => {
-            let answer = begin(alloc, names, forest, *deadline, text)?;
-            lives(forest, answer, *life)
+            let answer = begin(alloc, names, stage, *deadline, text)?;
+            lives(stage.forest(), answer, *life)
         }
-        Act::NoBegin(refusal) => begin(alloc, names, forest, 1, "{ }")? == Err(*refusal),
+        Act::NoBegin(refusal) => begin(alloc, names, stage, 1, "{ }")? == Err(*refusal),
         Act::Seal => {
-            forest.seal();
-            forest.journal().sealed()
+            stage.seal();
+            stage.forest().journal().sealed()
         }
-        Act::Step(txn, role, position) => { stands(forest.step(*txn, *role, steps), *position) }
-        Act::NoStep(txn, role, refusal) => forest.step(*txn, *role, steps) == *refusal,
+        Act::Step(txn, role, position) => { stands(stage.step(*txn, *role, steps), *position) }
+        Act::NoStep(txn, role, refusal) => stage.step(*txn, *role, steps) == *refusal,
         Act::Commit(txn, reply, resumed, starts) => {
-            forest.commit(*txn).is_ok()
-                && says(alloc, forest, *txn, reply)?
-                && tells(forest, resumed, *starts)
+            stage.commit(*txn).is_ok()
+                && says(alloc, stage.forest(), *txn, reply)?
+                && tells(stage.forest(), resumed, *starts)
         }
-        Act::NoCommit(txn, refusal) => forest.commit(*txn) == Err(*refusal),
+        Act::NoCommit(txn, refusal) => stage.commit(*txn) == Err(*refusal),
         Act::Withdraw(txn, starts) => {
-            forest.withdraw(*txn).is_ok()
-                && forest.journal().withdrawn(*txn)
-                && tells(forest, &[], *starts)
+            stage.withdraw(*txn).is_ok()
+                && stage.forest().journal().withdrawn(*txn)
+                && tells(stage.forest(), &[], *starts)
         }
-        Act::NoWithdraw(txn, refusal) => forest.withdraw(*txn) == Err(*refusal),
-        Act::Run(made) => forest.run_idle(steps) == *made,
+        Act::NoWithdraw(txn, refusal) => stage.withdraw(*txn) == Err(*refusal),
+        Act::Run(made) => stage.run_idle(steps) == *made,
         Act::DrainStep(did, starts) => {
-            forest.drain_step(steps) == *did && forest.started() == *starts
+            stage.drain_step(steps) == *did && stage.forest().started() == *starts
         }
         Act::Drain => {
-            forest.drain(steps);
-            forest.started_at(0).is_none()
+            stage.drain(steps);
+            stage.forest().started_at(0).is_none()
         }
-        _ => is_seen(forest, act),
+        Act::Gate(did, starts) => {
+            stage.gate_step(steps) == *did && stage.forest().started() == *starts
+        }
+        Act::Take(bench, job) => stage.take(*bench)? == *job,
+        Act::Local(bench, most, made) => stage.run_local(*bench, *most, steps) == Some(*made),
+        Act::Give(bench, given) => stage.give(*bench) == Some(*given),
+        _ => is_seen(stage.forest(), act),
     })
 }
 

@@ -10,6 +10,8 @@ mod histories;
 #[cfg(test)]
 mod history;
 #[cfg(test)]
+mod job_lists;
+#[cfg(test)]
 mod lists;
 #[cfg(test)]
 mod opening;
@@ -17,6 +19,8 @@ mod opening;
 mod serial;
 #[cfg(test)]
 mod shown;
+#[cfg(test)]
+mod stage;
 #[cfg(test)]
 mod starts;
 #[cfg(test)]

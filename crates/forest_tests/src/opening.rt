@@ -1,6 +1,7 @@
-// A forest over one table, and the programs that begin in it.
+// The table that forests stand over, and the programs that begin in them.
+use crate::stage::Stage;
 use item_table::Table;
-use shadow_forest::{BeginRefusal, Forest};
+use shadow_forest::BeginRefusal;
 use std::alloc::{AllocError, Global};
 use std::test::Fail;
 use txn_names::Names;
@@ -13,21 +14,8 @@ pub fn one_table(alloc: Global) -> Result<Names, Fail> {
     Ok(names)
 }
 
-/// A forest over that table with these values. None where a limit is passed.
-pub fn open_forest(
-    alloc: Global,
-    values: &[i64; 4],
-    k: u32,
-    lanes: u32,
-) -> Result<Option<Forest>, AllocError> {
-    if k < 1 || k > 8 || lanes < 1 || lanes > 64 {
-        return Ok(None);
-    }
-    let table = filled(alloc, values)?;
-    Ok(Some(Forest::open(alloc, table, k, lanes)?))
-}
-
-fn filled(alloc: Global, values: &[i64; 4]) -> Result<Table, AllocError> {
+/// That table with these values.
+pub fn filled(alloc: Global, values: &[i64; 4]) -> Result<Table, AllocError> {
     let mut table = Table::new(alloc, 4)?;
     for i in 0..4u32 {
         if i < table.len() {
@@ -41,13 +29,10 @@ fn filled(alloc: Global, values: &[i64; 4]) -> Result<Table, AllocError> {
 pub fn begin(
     alloc: Global,
     names: &Names,
-    forest: &mut Forest,
+    stage: &mut Stage,
     deadline: u32,
     text: &str,
 ) -> Result<Result<u32, BeginRefusal>, Fail> {
     let program = read_program(alloc, names, text.as_bytes())?;
-    if !program.fits(forest.table().len()) {
-        return Err(Fail::new("a program of other tables"));
-    }
-    Ok(forest.begin(program, u64::from(deadline)))
+    stage.begin(program, deadline)
 }

@@ -2,10 +2,10 @@
 use shadow_forest::{Forest, Resumed};
 use std::alloc::{AllocError, Global};
 
-/// Where the shadows of each transaction stand, how long the journal is, and what was told last.
+/// Where the shadows of each transaction stand and whether they are out, how long the journal is, and what was told last.
 #[derive(Drop)]
 pub struct Shown {
-    positions: Vec<(u32, u32)>,
+    shadows: Vec<(u32, u32, bool)>,
     entries: u32,
     resumed: Vec<Resumed>,
     started: Option<u32>,
@@ -13,12 +13,12 @@ pub struct Shown {
 
 impl Shown {
     pub fn of(alloc: Global, forest: &Forest) -> Result<Shown, AllocError> {
-        let mut positions = Vec::new(alloc);
+        let mut shadows = Vec::new(alloc);
         for before in 0..forest.journal().began() {
             let txn = before.wrapping_add(1);
             for place in 0..forest.shadows(txn) {
                 if let Some(view) = forest.shadow(txn, place) {
-                    positions.push((txn, view.position))?;
+                    shadows.push((txn, view.position, view.out))?;
                 }
             }
         }
@@ -27,7 +27,7 @@ impl Shown {
             resumed.push(*each)?;
         }
         Ok(Shown {
-            positions,
+            shadows,
             entries: forest.journal().len(),
             resumed,
             started: forest.started(),
@@ -35,7 +35,7 @@ impl Shown {
     }
 
     pub fn is_same(&self, other: &Shown) -> bool {
-        self.positions.as_slice() == other.positions.as_slice()
+        self.shadows.as_slice() == other.shadows.as_slice()
             && self.entries == other.entries
             && self.resumed.as_slice() == other.resumed.as_slice()
             && self.started == other.started
@@ -44,8 +44,8 @@ impl Shown {
     /// The positions of all shadows, added up.
     pub fn stood(&self) -> u32 {
         let mut sum = 0u32;
-        for position in &self.positions {
-            sum = sum.wrapping_add(position.1);
+        for shadow in &self.shadows {
+            sum = sum.wrapping_add(shadow.1);
         }
         sum
     }

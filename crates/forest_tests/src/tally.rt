@@ -1,6 +1,6 @@
 // What came of events.
 use crate::shown::Shown;
-use shadow_forest::{CommitRefusal, Forest, Stepped, WithdrawRefusal};
+use shadow_forest::{CommitRefusal, Did, Forest, Given, Job, Stepped, WithdrawRefusal};
 
 /// How many events were refused, by the cause.
 #[derive(Clone, Copy, Debug, PartialEq, Eq)]
@@ -22,6 +22,14 @@ pub struct Tally {
     pub waited: u32,
     /// How many steps runs made.
     pub ran: u64,
+    /// How many steps under a gate did something.
+    pub gated: u32,
+    /// How many jobs were taken, and how many steps they made.
+    pub taken: u32,
+    pub local: u32,
+    /// How many were stored, and how many were gone.
+    pub stored: u32,
+    pub gone: u32,
     /// How many transactions were taken back to their starts.
     pub restarted: u32,
     /// How many were taken back to a later position.
@@ -36,29 +44,33 @@ pub struct Tally {
     pub stood: u32,
 }
 
-impl Tally {
-    pub fn new() -> Tally {
-        Tally {
-            refused: Refused {
-                sealed: 0,
-                unknown: 0,
-                not_started: 0,
-                no_shadow: 0,
-                ended: 0,
-                blocked: 0,
-                not_ended: 0,
-            },
-            waited: 0,
-            ran: 0,
-            restarted: 0,
-            resumed: 0,
-            started: 0,
-            withdrawn: 0,
-            committed: 0,
-            stood: 0,
-        }
-    }
+/// Nothing came of no events.
+pub const NOTHING: Tally = Tally {
+    refused: Refused {
+        sealed: 0,
+        unknown: 0,
+        not_started: 0,
+        no_shadow: 0,
+        ended: 0,
+        blocked: 0,
+        not_ended: 0,
+    },
+    waited: 0,
+    ran: 0,
+    gated: 0,
+    taken: 0,
+    local: 0,
+    stored: 0,
+    gone: 0,
+    restarted: 0,
+    resumed: 0,
+    started: 0,
+    withdrawn: 0,
+    committed: 0,
+    stood: 0,
+};
 
+impl Tally {
     /// A begin that the seal refused.
     pub fn sealed(&mut self) {
         one_more(&mut self.refused.sealed);
@@ -104,6 +116,35 @@ impl Tally {
 
     pub fn ran(&mut self, made: u64) {
         self.ran = self.ran.wrapping_add(made);
+    }
+
+    pub fn gated(&mut self, did: Did, forest: &Forest) {
+        match did {
+            Did::Committed { .. } => {
+                one_more(&mut self.gated);
+                one_more(&mut self.committed);
+                self.end(forest);
+            }
+            Did::Stepped { .. } => one_more(&mut self.gated),
+            Did::Nothing => {}
+        }
+    }
+
+    pub fn took(&mut self, job: Option<Job>) {
+        if job.is_some() {
+            one_more(&mut self.taken);
+        }
+    }
+
+    pub fn went_on(&mut self, made: u32) {
+        self.local = self.local.wrapping_add(made);
+    }
+
+    pub fn gave(&mut self, given: Given) {
+        match given {
+            Given::Stored => one_more(&mut self.stored),
+            Given::Gone => one_more(&mut self.gone),
+        }
     }
 
     /// How the shadows stand after an event.

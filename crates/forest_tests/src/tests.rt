@@ -1,8 +1,10 @@
 use crate::histories::HISTORIES;
 use crate::history::History;
+use crate::job_lists::{JOB_LISTS, JOBS_CAME, WORKED_CAME, WORKED_LISTS};
 use crate::lists::{CAME, LISTS, List};
-use crate::opening::{begin, one_table, open_forest};
-use crate::tally::Tally;
+use crate::opening::{begin, one_table};
+use crate::stage::Stage;
+use crate::tally::{NOTHING, Tally};
 use crate::{events, history};
 use std::alloc::Global;
 use std::marker::Brand;
@@ -29,15 +31,34 @@ fn happened(alloc: Global, list: &List, tally: &mut Tally) -> Result<Option<usiz
     events::first_wrong::<Brand>(blank, alloc, list, tally)
 }
 
+// The place of the first list in which something goes wrong, and of the event.
+fn all_happened(
+    alloc: Global,
+    lists: &[List],
+    tally: &mut Tally,
+) -> Result<Option<(usize, usize)>, Fail> {
+    for (place, list) in lists.iter().enumerate() {
+        if let Some(wrong) = happened(alloc, list, tally)? {
+            return Ok(Some((place, wrong)));
+        }
+    }
+    Ok(None)
+}
+
 #[test]
 fn shadows_are_runs_from_the_start_after_each_event(rt: HostRuntime) -> Result<(), Fail> {
     let alloc = rt.alloc();
-    let mut tally = Tally::new();
-    for (place, list) in LISTS.iter().enumerate() {
-        let wrong = happened(alloc, list, &mut tally)?;
-        assert_eq!(rt; wrong, None, "in the list at {place}");
+    let all: [(&[List], Tally); 3] = [
+        (&LISTS, CAME),
+        (&JOB_LISTS, JOBS_CAME),
+        (&WORKED_LISTS, WORKED_CAME),
+    ];
+    for (lists, came) in all {
+        let mut tally = NOTHING;
+        let wrong = all_happened(alloc, lists, &mut tally)?;
+        assert_eq!(rt; wrong, None);
+        assert_eq!(rt; tally, came);
     }
-    assert_eq!(rt; tally, CAME);
     Ok(())
 }
 
@@ -45,9 +66,9 @@ fn shadows_are_runs_from_the_start_after_each_event(rt: HostRuntime) -> Result<(
 fn calls_that_take_memory_answer(rt: HostRuntime) -> Result<(), Fail> {
     let alloc = rt.alloc();
     let names = one_table(alloc)?;
-    let mut forest = open_forest(alloc, &[0, 0, 0, 0], 8, 64)?.ok_or("limits")?;
-    let first = begin(alloc, &names, &mut forest, 1, "{ emit 1; }")?;
+    let mut stage = Stage::open(alloc, &[0, 0, 0, 0], 8, 64)?.ok_or("limits")?;
+    let first = begin(alloc, &names, &mut stage, 1, "{ emit 1; }")?;
     assert_eq!(rt; first, Ok(1));
-    assert_eq!(rt; forest.shadows(1), 1);
+    assert_eq!(rt; stage.forest().shadows(1), 1);
     Ok(())
 }

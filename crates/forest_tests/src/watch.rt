@@ -24,7 +24,7 @@ pub fn is_right(alloc: Global, forest: &Forest) -> Result<bool, AllocError> {
     Ok(are_started(forest) && are_wanted(forest, readers.as_slice()) && is_serial(alloc, forest)?)
 }
 
-/// Whether no shadow may make a step.
+/// Whether no shadow may make a step that isn't out.
 pub fn is_idle(forest: &Forest) -> bool {
     for before in 0..forest.journal().began() {
         let txn = before.wrapping_add(1);
@@ -39,7 +39,7 @@ pub fn is_idle(forest: &Forest) -> bool {
 
 fn is_runnable(forest: &Forest, txn: u32, place: u32) -> bool {
     match forest.shadow(txn, place) {
-        Some(view) => view.standing == Standing::Runnable,
+        Some(view) => view.standing == Standing::Runnable && !view.out,
         None => false,
     }
 }

@@ -6,11 +6,13 @@ use Rattle.forest_model.specs.Pick.{pick}
 use Rattle.forest_model.specs.Sound.{IsSound}
 use Rattle.forest_model.specs.Events.{Refusal, commit}
 use Rattle.forest_model.specs.Jobs.{recall}
-use Rattle.forest_model.specs.Drain.{step_row, first_ended, after_commit, drain_by, drain_step, drain_from, drain_within, left, drain}
+use Rattle.forest_model.specs.Work.{work}
+use Rattle.forest_model.specs.Drain.{step_row, first_ended, after_commit, drain_by, drain_step, until_from, until_within, until_commit, drain_from, drain_within, left, drain}
 use Rattle.forest_model.specs.declared.did.Did.{Did}
 use Rattle.forest_model.specs.declared.did.Did.TheVariants.{Committed, Stepped, Nothing}
 use Rattle.forest_model.proofs.Lists.{either}
 use Rattle.forest_model.proofs.DrainLaws.{IsDrainStep, HasNothing, commit-step, row-step}
+use Rattle.forest_model.proofs.UntilLaws.{until-stops}
 use Rattle.forest_model.proofs.GateLaws.{first-accepted}
 use Rattle.shadow_forest.specs.Answers.{did_ticks}
 use Rattle.shadow_forest.specs.View.{View, with_numbers, told_commit, commit_view, commit_told, drain_told, drain_step_view, drain_view_from, drain_view_within, drain_view}
@@ -121,6 +123,70 @@ rest-unrolled v h =
     ∙ from-same (drain_step v.numbers).0 (drain_step_view v) (drain_view_within (left v.numbers)) rest_view
     (view-same (left v.numbers) (left (drain_step_view v).numbers) (drain_step_view v) (next-sound v one) (omega arith) (omega arith)))
 
+-- Up to the next commit.
+
+-- what is left of a drain is so many steps and what is left after them
+pub record HasRest (v : View) (x : ℕ × Forest) : Type 0 where
+  pub steps : (rest_view v).0 ≡ x.0 + (rest_view (with_numbers x.1 v)).0
+  pub last : (rest_view v).1 ≡ (rest_view (with_numbers x.1 v)).1
+
+rest-here : (v : View) → HasRest v (0, v.numbers)
+rest-here v = record { steps = omega arith; last = refl }
+
+rest-by : (v : View) (o : Option ℕ) (p : Option Row) (more : Forest → ℕ × Forest) → first_ended v.numbers ≡ o → pick v.numbers ≡ p → IsSound v.numbers
+    → ((w : View) → IsSound w.numbers → HasRest w (more w.numbers)) → HasRest v (until_from (drain_by v.numbers o p).0 v.numbers (drain_by v.numbers o p).1 more)
+rest-by v (Some t) p more e q h each = rest-here v
+rest-by v None (Some row) more e q h each =
+    let w : View = with_numbers (step_row v.numbers row) v in
+    let one : rest_view v ≡ (suc (rest_view w).0, (rest_view w).1) =
+    rest-unrolled v h ∙ ap (λ (x : Did × Forest). drain_view_from x.0 (drain_told v x.0 x.1) rest_view) (drain-steps v row e q)
+    in
+    let rest : HasRest w (more w.numbers) = each w (row-step v.numbers row h q).sound in
+    record {
+      steps = let count = ap (λ (x : ℕ × View). x.0) one in omega (arith, count, rest.steps);
+      last = ap (λ (x : ℕ × View). x.1) one ∙ rest.last;
+    }
+rest-by v None None more e q h each = rest-here v
+
+rest-within : (n : ℕ) (v : View) → IsSound v.numbers → HasRest v (until_within n v.numbers)
+rest-within zero v h = rest-here v
+rest-within (suc n) v h = rest-by v (first_ended v.numbers) (pick v.numbers) (until_within n) refl refl h (rest-within n)
+
+-- the forest before the next commit
+abbrev pub until_view : View → View
+until_view v = with_numbers (until_commit v.numbers).1 v
+
+pub rest-until : (v : View) → IsSound v.numbers → HasRest v (until_commit v.numbers)
+rest-until v h = rest-within (work v.numbers) v h
+
+-- where nobody has ended then there is nothing left to do
+pub until-nothing : (v : View) → IsSound v.numbers → None ≡ first_ended (until_view v).numbers → (drain_step (until_view v).numbers).0 ≡ Nothing
+until-nothing v h none = ap (λ (x : Did × Forest). x.0) (nothing-done (until_view v).numbers (sym none, until-stops v.numbers h (sym none)))
+
+-- less is left then
+left-by : (f : Forest) (o : Option ℕ) (p : Option Row) (more : Forest → ℕ × Forest) → pick f ≡ p → IsSound f → ((g : Forest) → IsSound g → left (more g).1 ≤ left g)
+    → left (until_from (drain_by f o p).0 f (drain_by f o p).1 more).1 ≤ left f
+left-by f (Some t) p more q h each = omega arith
+left-by f None (Some row) more q h each =
+    let one = row-step f row h q in
+    let rest = each (step_row f row) one.sound in
+    let lower = one.lower in
+    omega (arith, rest, lower)
+left-by f None None more q h each = omega arith
+
+left-within : (n : ℕ) (f : Forest) → IsSound f → left (until_within n f).1 ≤ left f
+left-within zero f h = omega arith
+left-within (suc n) f h = left-by f (first_ended f) (pick f) (until_within n) refl h (left-within n)
+
+pub until-left : (f : Forest) → IsSound f → left (until_commit f).1 ≤ left f
+until-left f h = left-within (work f) f h
+
+-- else something is
+pub until-some : (v : View) (t : ℕ) → Some t ≡ first_ended (until_view v).numbers → (drain_step (until_view v).numbers).0 ≡ Nothing → ⊥
+until-some v t some e =
+    let did : Committed t ≡ Nothing = sym (ap (λ (x : Did × Forest). x.0) (drain-commits (until_view v) t (sym some))) ∙ e in
+    cc
+
 -- In numbers.
 
 from-numbers : (did : Did) (v : View) (g : Forest) (a : View → ℕ × View) (b : Forest → ℕ × Forest) → v.numbers ≡ g → ((w : View) → (a w).1.numbers ≡ (b w.numbers).1) → (drain_view_from did v a).1.numbers ≡ (drain_from did g b).1
@@ -173,3 +239,10 @@ rest-last v h ne = ap (λ (x : ℕ × View). x.1) (rest-unrolled v h) ∙ from-l
 
 pub rest-ticks : (v : View) → IsSound v.numbers → ((drain_step v.numbers).0 ≡ Nothing → ⊥) → (rest_view v).0 ≡ did_ticks (drain_step v.numbers).0 + (rest_view (drain_step_view v)).0
 rest-ticks v h ne = ap (λ (x : ℕ × View). x.0) (rest-unrolled v h) ∙ from-ticks (drain_step v.numbers).0 (drain_step_view v) rest_view ne
+
+-- the next commit takes no step
+pub until-ticks : (v : View) (t : ℕ) → IsSound (until_view v).numbers → Some t ≡ first_ended (until_view v).numbers → (rest_view (until_view v)).0 ≡ (rest_view (drain_step_view (until_view v))).0
+until-ticks v t h e =
+    let did : did_ticks (drain_step (until_view v).numbers).0 ≡ 0 = ap (λ (x : Did × Forest). did_ticks x.0) (drain-commits (until_view v) t (sym e)) in
+    let count = rest-ticks (until_view v) h (until-some v t e) in
+    omega (arith, did, count)

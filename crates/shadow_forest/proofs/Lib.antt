@@ -5,6 +5,7 @@ pub mod BeginningEntry
 pub mod BeginningQueue
 pub mod BeginningSeats
 pub mod Begun
+pub mod Benches
 pub mod Carrying
 pub mod CutForest
 pub mod Cutting
@@ -13,8 +14,12 @@ pub mod Elements
 pub mod EndedSeats
 pub mod Ending
 pub mod Finishing
+pub mod FirstPlaces
 pub mod Firsts
 pub mod Fronts
+pub mod Gates
+pub mod GivenBack
+pub mod Guarded
 pub mod Idling
 pub mod Keeping
 pub mod Leaving
@@ -23,10 +28,13 @@ pub mod Marking
 pub mod Moving
 pub mod Optimistic
 pub mod OptimisticCall
+pub mod Picked
+pub mod PickedSlot
 pub mod Picks
 pub mod Places
 pub mod Placing
 pub mod Queue
+pub mod Quiet
 pub mod Refilling
 pub mod RenewedForest
 pub mod Renewing
@@ -40,5 +48,7 @@ pub mod Slots
 pub mod Starting
 pub mod StepWants
 pub mod Stepping
+pub mod Stores
+pub mod Taking
 pub mod Wanting
 pub mod WroteLess

@@ -1,13 +1,14 @@
 -- A transaction that gets the shadows that it wants, and all of them in turn.
-use Rattle.std.proofs.Common.{◌≡◌, ℕ, ◌+◌, Bool, true, false, not, ◌&&◌, ◌==◌, List, Option, Some, None, option_map, slice_get, refl, ap, sym, subst, ◌∙◌}
-use Rattle.std.specs.Prelude.{if◌then◌else◌}
+use Rattle.std.proofs.Common.{◌≡◌, ℕ, suc, ◌+◌, ◌≤◌, Bool, true, false, not, ◌&&◌, ◌==◌, List, [], ◌∷◌, map, length, Option, Some, None, option_map, slice_get, refl, ap, sym, subst, ◌∙◌, arith}
+use Rattle.std.specs.Prelude.{if◌then◌else◌, filter_map}
+use Rattle.std.specs.List.{AllByRecursion}
 use Rattle.std.proofs.lemmas.Bool.{cond_both}
 use Rattle.txn_code.specs.declared.node.Node.{Node}
 use Rattle.forest_model.specs.Point.{Conflict, wanted_of}
 use Rattle.shadow_state.specs.Bank.{at_place}
-use Rattle.shadow_lanes.specs.Seats.{Seat, Seated, conflicts_of, settled_seat}
+use Rattle.shadow_lanes.specs.Seats.{Waiter, Seat, Seated, IsSeat, AreSeats, conflict_of, conflicts_of, settled_seat}
 use Rattle.shadow_forest.specs.declared.txn.Txn.{Txn}
-use Rattle.shadow_forest.specs.Parts.{conflict_between, wanted_among, same_conflicts, renewed, nodes_at, renewed_among, renewed_if_around, has_read, reader_renewed}
+use Rattle.shadow_forest.specs.Parts.{conflict_between, wanted_among, same_conflicts, renewed, nodes_at, renewed_among, renewed_if_around, has_read, reader_renewed, readers_renewed}
 use Rattle.shadow_forest.specs.Ready.{IsCarried, AreCarried}
 use Rattle.shadow_forest.proofs.Places.{option_map-some, all-at, at_place-agree, at_place-still, so_far, slice_get-so_far, so_far_more-at, so_far_more-still, filter_map-so_far}
 use Rattle.shadow_forest.proofs.SeatPlaces.{with_seats}
@@ -95,3 +96,32 @@ readers_so_far txns t item i s = with_seats s (so_far (reader_renewed s.most s.i
 -- who is renewed after t's write of the item
 abbrev pub is_reader : ℕ → ℕ → Seat → Bool
 is_reader t item r = not (r.number == t) && has_read item r
+
+-- With one shadow a transaction nobody wants another.
+
+none_wait : (ws : List Waiter) → suc (length ws) ≤ 1 → ws ≡ []
+none_wait [] h = refl
+none_wait (w ∷ ws) h = absurd (omega (arith, h))
+
+none_wanted : (k : ℕ) (next : Option ℕ) (seats : List Seat) (r : Seat) → k ≡ 1 → wanted_among k next seats r ≡ []
+none_wanted k next seats r one = ap (wanted_of (filter_map (conflict_between next r) seats)) one
+
+pub one-wanted : (k : ℕ) (next : Option ℕ) (seats : List Seat) (r : Seat) → k ≡ 1 → [] ≡ wanted_among k next seats r
+one-wanted k next seats r one = sym (none_wanted k next seats r one)
+
+pub one-renewed : (s : Seated) (txns : List Txn) (t item : ℕ) → AreSeats s → s.most ≡ 1 → s ≡ with_seats s (readers_renewed s.most s.items txns t item s.seats)
+one-renewed s txns t item h one = ap (with_seats s) (sym (all s.seats h.each))
+  where
+    same : (r : Seat) → IsSeat s.most s.items r → reader_renewed s.most s.items txns t item s.seats r ≡ r
+    same r of_r =
+        let few : suc (length r.waiters) ≤ s.most = of_r.few in
+        let none : conflicts_of r ≡ [] = ap (map conflict_of) (none_wait r.waiters (omega (arith, few, one))) in
+        let is : same_conflicts (conflicts_of r) (wanted_among s.most None s.seats r) ≡ true =
+        ap (λ cs. same_conflicts cs (wanted_among s.most None s.seats r)) none ∙ ap (same_conflicts []) (none_wanted s.most None s.seats r one)
+        in
+        cond_both (is_reader t item r) (renewed_among s.most s.items txns s.seats r) r (λ (x : Seat). x ≡ r)
+        (λ e. renewed-true (nodes_at txns r.number) s.items (wanted_among s.most None s.seats r) r is) (λ e. refl)
+
+    all : (xs : List Seat) → AllByRecursion (IsSeat s.most s.items) xs → map (reader_renewed s.most s.items txns t item s.seats) xs ≡ xs
+    all [] each = refl
+    all (x ∷ xs) each = rw (same x each.0, all xs each.1) refl

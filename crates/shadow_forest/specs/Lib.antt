@@ -3,3 +3,4 @@ pub mod Answers
 pub mod Parts
 pub mod Kept
 pub mod Ready
+pub mod Bench

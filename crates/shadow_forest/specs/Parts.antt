@@ -199,3 +199,8 @@ further_slot (Some n) = Some (suc n)
 abbrev pub slot_of : List Conflict → ℕ → Option ℕ
 slot_of [] u = None
 slot_of (w ∷ ws) u = if w.0 == u then Some 1 else further_slot (slot_of ws u)
+
+-- the place of the first element that passes the test, if there is one
+abbrev pub first_place : {X : Type 0} → (X → Bool) → List X → Option ℕ
+first_place test [] = None
+first_place test (x ∷ xs) = if test x then Some 0 else further_slot (first_place test xs)

@@ -5,7 +5,7 @@ use Rattle.forest_model.specs.Forest.{Started, Forest, find_started}
 use Rattle.forest_model.specs.Start.{next_to_start}
 use Rattle.forest_model.specs.Events.{Refusal, commit, withdraw, resumed, laid, gone}
 use Rattle.forest_model.specs.World.{opened}
-use Rattle.forest_model.specs.Drain.{drain_step, left}
+use Rattle.forest_model.specs.Drain.{gate_step, drain_step, left}
 use Rattle.forest_model.specs.Jobs.{recall}
 use Rattle.forest_model.specs.declared.did.Did.{Did}
 use Rattle.forest_model.specs.declared.did.Did.TheVariants.{Committed, Stepped, Nothing}
@@ -69,6 +69,10 @@ drain_told v Nothing g = with_numbers g v
 -- after a step of a drain
 abbrev pub drain_step_view : View → View
 drain_step_view v = drain_told v (drain_step v.numbers).0 (drain_step v.numbers).1
+
+-- after a step under a gate
+abbrev pub gate_step_view : View → View
+gate_step_view v = drain_told v (gate_step v.numbers).0 (gate_step v.numbers).1
 
 -- after something was done, more
 abbrev pub drain_view_from : Did → View → (View → ℕ × View) → ℕ × View

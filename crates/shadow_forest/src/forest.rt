@@ -1,4 +1,4 @@
-ghost use Rattle.std.specs.Prelude.{◌≡◌, ◌+◌, ◌≤◌, ◌<◌, ◌↔◌, ℕ, true, false, None, Some, Err, length, map, slice_get, option_map, IsOk, IfOk, IfErr, IfSome, OnOk, OnErr};
+ghost use Rattle.std.specs.Prelude.{◌≡◌, ◌⊎◌, ◌+◌, ◌^◌, ◌≤◌, ◌<◌, ◌↔◌, ℕ, true, false, None, Some, Err, length, map, slice_get, option_map, is_ok, IsOk, IfOk, IfErr, IfSome, OnOk, OnErr};
 ghost use Rattle.std.specs.List.{AllByRecursion};
 ghost use Rattle.txn_runs.specs.Bounds.{reach};
 ghost use Rattle.txn_runs.specs.Serial.{outcome_of};
@@ -9,24 +9,33 @@ ghost use Rattle.forest_model.specs.Forest.{Started, find_started, length_of, is
 ghost use Rattle.forest_model.specs.Told.{looks};
 ghost use Rattle.forest_model.specs.Runs.{is_done as is_done_of};
 ghost use Rattle.forest_model.specs.Sound.{IsSound, IsHome, IsIdle};
-ghost use Rattle.forest_model.specs.Events.{begin as begin_of, seal as seal_of, step as step_of, commit as commit_of, withdraw as withdraw_of, step_role, committed};
-ghost use Rattle.forest_model.specs.Drain.{after_step, run_idle as run_idle_of, drain_step as drain_step_of, drain as drain_of};
+ghost use Rattle.forest_model.specs.Stays.{AreLocal, RunsOn, IsStillPicked, GuardRan};
+ghost use Rattle.forest_model.specs.Events.{move_to, begin as begin_of, seal as seal_of, step as step_of, commit as commit_of, withdraw as withdraw_of, step_role, committed};
+ghost use Rattle.forest_model.specs.Drain.{after_step, run_idle as run_idle_of, first_ended as first_ended_of, drain_step as drain_step_of, until_commit, drain as drain_of, gate_by, gate_step as gate_step_of, state_of};
 ghost use Rattle.forest_model.specs.Jobs.{recall as recall_of};
-ghost use Rattle.shadow_forest.specs.View.{View, opened_view, with_numbers, commit_view, withdraw_view, drain_step_view, drain_view, told_commit};
+ghost use Rattle.shadow_forest.specs.View.{View, opened_view, with_numbers, commit_view, withdraw_view, gate_step_view, drain_step_view, drain_view, told_commit};
 ghost use Rattle.shadow_forest.specs.Answers.{begin_refusal, step_answer, step_ticks, commit_refusal, withdraw_refusal, did_ticks, life_of, resumed_pair, looks_of, outs, IsWithin};
 ghost use Rattle.shadow_forest.specs.declared.answers.BeginRefusal.TheVariants.{Sealed, TooMany};
 ghost use Rattle.shadow_forest.specs.declared.answers.ShadowView.{ShadowView as ShadowViewOf};
 ghost use Rattle.shadow_forest.specs.Parts.{slot_of};
+ghost use Rattle.forest_model.specs.Jobs.{taken, take_pick, job_of, give as give_of};
+ghost use Rattle.forest_model.specs.Pick.{pick as pick_of};
+ghost use Rattle.forest_model.specs.Runs.{is_local as is_local_of};
+ghost use Rattle.txn_code.specs.Nodes.{nodes_of};
+ghost use Rattle.shadow_forest.specs.declared.bench.Given.TheVariants.{Stored};
+ghost use Rattle.shadow_forest.specs.Bench.{Outside, told, outside_of, job_in, given_answer, after_give, IsOutside, IsOfRun, IsPresent};
 
 use crate::answers::{
     BeginRefusal, CommitRefusal, Life, Resumed, ShadowView, Stepped, WithdrawRefusal,
 };
+use crate::bench::{Bench, Given, Job};
 use crate::committing::{cut_others, start_waiting};
+use crate::giving::slot_out;
 use crate::picking::{pick, role_at};
 use crate::priority::first_ended;
 use crate::settling::{renew, renew_around, renew_readers, wanted_at};
 use crate::txn::{Txn, code_of, deadline_of};
-use block_rule::{Role, Standing, status};
+use block_rule::{Role, Row, Standing, status};
 use forest_model::Did;
 use item_table::Table;
 use journal_core::{Entry, Journal};
@@ -36,7 +45,7 @@ use std::marker::Model;
 use std::sync::ledger::Ledger;
 use step_count::Steps;
 use txn_code::link;
-use txn_interp::Kind;
+use txn_interp::{Kind, State};
 use txn_runs::{Outcome, Program};
 use wait_list::WaitList;
 
@@ -313,6 +322,61 @@ impl Forest {
         self.lanes.recall();
     }
 
+    /// Hands the state of the pick out to a bench, and the shadow is out from then on. The bench has no job, and room for as many
+    /// items as there are. `None` exactly where there is no pick; then nothing changes.
+    pub fn take(&mut self, bench: &mut Bench) -> Option<Job>
+        requires empty { bench.old.outside ≡ None }
+        requires items { bench.old.items ≡ length self.old.numbers.tables }
+        ensures answer { result ≡ option_map told bench.new.outside }
+        ensures next { self.new ≡ with_numbers (take_pick self.old.numbers) self.old }
+        ensures taken { option_map (job_in self.old.numbers) bench.new.outside ≡ option_map (job_of self.old.numbers) (pick_of self.old.numbers) }
+        ensures runs { IfSome bench.new.outside (IsOfRun self.old.numbers) }
+        ensures room { bench.new.items ≡ bench.old.items }
+    {
+        match pick(&self.lanes, &self.txns) {
+            None => None,
+            Some(row) => Some(self.hand_out(&row, bench)),
+        }
+    }
+
+    /// Gives a job back to the first shadow of its transaction that takes it, the optimistic one first: that stands where the job was
+    /// taken, is out, and has read the same. It goes on from the bench's state, and is not out any more. `Gone` exactly where there is
+    /// none; then nothing changes. The job's program is its transaction's. The bench has no job afterwards.
+    pub fn give(&mut self, bench: &mut Bench) -> Given
+        requires job { (x : Outside) × (bench.old.outside ≡ Some x) × (x.nodes ≡ nodes_of (program_of self.old.numbers.journal x.number)) }
+        requires items { bench.old.items ≡ length self.old.numbers.tables }
+        ensures answer { (x : Outside) → bench.old.outside ≡ Some x → result ≡ given_answer (give_of self.old.numbers (job_in self.old.numbers x)) }
+        ensures next { (x : Outside) → bench.old.outside ≡ Some x → self.new ≡ with_numbers (after_give self.old.numbers (give_of self.old.numbers (job_in self.old.numbers x))) self.old }
+        ensures stored { (x : Outside) → bench.old.outside ≡ Some x → result ≡ Stored → IsPresent self.old.numbers x }
+        ensures bench { bench.new ≡ record bench.old { outside = None } }
+    {
+        let given = match bench.job() {
+            Some(job) => self.store(job, bench.state()),
+            None => Given::Gone,
+        };
+        bench.clear();
+        given
+    }
+
+    /// One step under a gate: the commit of the first by deadline and number that has run to its end, else the pick's step where that
+    /// reads the tables or writes, else nothing.
+    pub fn gate_step<L: Ledger>(&mut self, steps: &mut Steps<L>) -> Did
+        ensures did { result ≡ (gate_step_of self.old.numbers).0 }
+        ensures next { self.new ≡ gate_step_view self.old }
+        ensures ticks { steps.new ≡ steps.old + did_ticks result }
+    {
+        match first_ended(&self.lanes, &self.txns) {
+            Some(txn) => {
+                let _accepted = self.commit(txn);
+                Did::Committed { txn }
+            }
+            None => match pick(&self.lanes, &self.txns) {
+                Some(row) => self.step_gated(row, steps),
+                None => Did::Nothing,
+            },
+        }
+    }
+
     /// Makes steps of the pick as long as there is one, and tells how many they were. Each ticks once. Where no shadow was out, the
     /// forest is idle afterwards: every optimistic shadow is at its end, and every waiting one at its point.
     pub fn run_idle<L: Ledger>(&mut self, steps: &mut Steps<L>) -> u64
@@ -327,10 +391,7 @@ impl Forest {
         loop {
             match pick(&self.lanes, &self.txns) {
                 None => return made,
-                Some(row) => {
-                    self.step(row.txn, row.role, steps);
-                    made += 1;
-                }
+                Some(row) => made += self.run_pick(row, steps),
             }
         }
     }
@@ -360,6 +421,27 @@ impl Forest {
         }
     }
 
+    /// The steps of a drain up to its next commit, and that commit: of the first by deadline and number that has run to its end. Each
+    /// step ticks once. Tells whose commit it was; `None` where nothing is left to do.
+    pub fn next_commit<L: Ledger>(&mut self, steps: &mut Steps<L>) -> Option<u32>
+        ensures commit { result ≡ first_ended_of (until_commit self.old.numbers).1 }
+        ensures next { self.new ≡ drain_step_view (with_numbers (until_commit self.old.numbers).1 self.old) }
+        ensures ticks { steps.new ≡ steps.old + (until_commit self.old.numbers).0 }
+    {
+        loop {
+            match first_ended(&self.lanes, &self.txns) {
+                Some(txn) => {
+                    let _accepted = self.commit(txn);
+                    return Some(txn);
+                }
+                None => match pick(&self.lanes, &self.txns) {
+                    Some(row) => self.run_pick(row, steps),
+                    None => return None,
+                },
+            };
+        }
+    }
+
     /// Calls all home, and then commits and makes steps until nothing is left to do. It leaves no transaction live.
     pub fn drain<L: Ledger>(&mut self, steps: &mut Steps<L>)
         ensures next { self.new ≡ (drain_view self.old).1 }
@@ -371,10 +453,161 @@ impl Forest {
         let _ = self.lanes.len();
         self.recall();
         loop {
-            if matches!(self.drain_step(steps), Did::Nothing) {
-                return;
+            match self.next_commit(steps) {
+                Some(_) => {}
+                None => return,
             }
         }
+    }
+
+    // The state of the pick is handed out to a bench with room for it.
+    fn hand_out(&mut self, row: &Row, bench: &mut Bench) -> Job
+        requires pick { pick_of self.old.numbers ≡ Some row.now }
+        requires items { bench.old.items ≡ length self.old.numbers.tables }
+        ensures next { self.new ≡ with_numbers (taken self.old.numbers (Some row.now)) self.old }
+        ensures job { (x : Outside) × (bench.new ≡ record { items = bench.old.items; outside = Some x }) × (result ≡ told x) × (job_in self.old.numbers x ≡ job_of self.old.numbers row.now) × IsOfRun self.old.numbers x }
+    {
+        let place = self.place_of(row);
+        let state = self.lanes.state(place, row.place);
+        let job = Job {
+            txn: row.txn,
+            from: state.position(),
+        };
+        bench.load(job, state, code_of(&self.txns, row.txn));
+        self.lanes.set_out(place, row.place, true);
+        job
+    }
+
+    // The first shadow that takes a job goes on from this state.
+    fn store(&mut self, job: Job, state: &State) -> Given
+        requires outside { IsOutside (outside_of self.old.numbers job state.now) }
+        requires room { state.now.log.room ≡ length self.old.numbers.tables }
+        ensures answer { result ≡ given_answer (give_of self.old.numbers (job_in self.old.numbers (outside_of self.old.numbers job state.now))) }
+        ensures next { self.new ≡ with_numbers (after_give self.old.numbers (give_of self.old.numbers (job_in self.old.numbers (outside_of self.old.numbers job state.now)))) self.old }
+        ensures stored { result ≡ Stored → IsPresent self.old.numbers (outside_of self.old.numbers job state.now) }
+    {
+        let Some(place) = self.lanes.find(job.txn) else {
+            return Given::Gone;
+        };
+        match slot_out(&self.lanes, place, job.from, state) {
+            None => Given::Gone,
+            Some(slot) => {
+                self.lanes.store(place, slot, state);
+                Given::Stored
+            }
+        }
+    }
+
+    // The step of the pick, where it reads the tables or writes.
+    fn step_gated<L: Ledger>(&mut self, row: Row, steps: &mut Steps<L>) -> Did
+        requires pick { pick_of self.old.numbers ≡ Some row }
+        requires sound { IsSound self.old.numbers }
+        ensures did { result ≡ (gate_by self.old.numbers None (Some row)).0 }
+        ensures next { self.new ≡ with_numbers (gate_by self.old.numbers None (Some row)).1 self.old }
+        ensures ticks { steps.new ≡ steps.old + did_ticks result }
+    {
+        if self.is_local(&row) {
+            return Did::Nothing;
+        }
+        self.step(row.txn, row.role, steps);
+        Did::Stepped {
+            txn: row.txn,
+            role: row.role,
+        }
+    }
+
+    // Whether the next step of the pick needs no tables.
+    fn is_local(&self, row: &Row) -> bool
+        requires { pick_of self.now.numbers ≡ Some row.now }
+        ensures { result ≡ is_local_of (state_of self.now.numbers row.now) }
+    {
+        let place = self.place_of(row);
+        let code = code_of(&self.txns, row.txn);
+        matches!(
+            self.lanes.state(place, row.place).next_kind(code),
+            Kind::Local
+        )
+    }
+
+    // The place of the transaction of the pick.
+    fn place_of(&self, row: &Row) -> u32
+        requires { pick_of self.now.numbers ≡ Some row.now }
+        ensures { (r : Started) × (slice_get self.now.numbers.started result ≡ Some r) × (find_started self.now.numbers.started row.now.txn ≡ Some r) × (row.now.place ≤ length r.shadows) }
+    {
+        match self.lanes.find(row.txn) {
+            Some(place) => place,
+            None => unreachable!(),
+        }
+    }
+
+    // Steps of the pick: its local ones, and the next, unless it has ended by them or come to its point.
+    fn run_pick<L: Ledger>(&mut self, row: Row, steps: &mut Steps<L>) -> u64
+        requires sound { IsSound self.old.numbers }
+        requires pick { pick_of self.old.numbers ≡ Some row }
+        ensures some { 1 ≤ result }
+        ensures runs { RunsOn self.old.numbers self.new.numbers result }
+        ensures told { self.new ≡ with_numbers self.new.numbers self.old }
+        ensures ticks { steps.new ≡ steps.old + result }
+    {
+        let place = self.place_of(&row);
+        let made = self.run_ahead(place, &row, steps);
+        match self.step(row.txn, row.role, steps) {
+            Stepped::Stepped { .. } => made + 1,
+            _ => made,
+        }
+    }
+
+    // The local steps of the pick, which is a shadow of the transaction at this place.
+    fn run_ahead<L: Ledger>(&mut self, place: u32, row: &Row, steps: &mut Steps<L>) -> u64
+        requires sound { IsSound self.old.numbers }
+        requires pick { pick_of self.old.numbers ≡ Some row.now }
+        requires place { (r : Started) × (slice_get self.old.numbers.started place ≡ Some r) × (find_started self.old.numbers.started row.now.txn ≡ Some r) }
+        ensures few { result < 2 ^ 32 }
+        ensures none { result ≡ 0 → self.new ≡ self.old }
+        ensures runs { RunsOn self.old.numbers self.new.numbers result }
+        ensures stays { is_ok (step_of self.new.numbers row.now.txn row.now.role) ≡ true → IsStillPicked self.old.numbers self.new.numbers row.now }
+        ensures told { self.new ≡ with_numbers self.new.numbers self.old }
+        ensures ticks { steps.new ≡ steps.old + result }
+    {
+        match row.role {
+            Role::Optimistic => self.run_local(place, row.txn, steps) as u64,
+            Role::Guard(guard) => self.run_guard(place, row.txn, guard, steps) as u64,
+        }
+    }
+
+    // The optimistic shadow of the transaction at a place makes Local steps until its next one is not Local.
+    fn run_local<L: Ledger>(&mut self, place: u32, txn: u32, steps: &mut Steps<L>) -> u32
+        requires place { (r : Started) × (slice_get self.old.numbers.started place ≡ Some r) × (find_started self.old.numbers.started txn ≡ Some r) }
+        ensures local { (r : Started) → find_started self.old.numbers.started txn ≡ Some r → AreLocal self.old.numbers r result }
+        ensures next { (r : Started) → find_started self.old.numbers.started txn ≡ Some r → self.new ≡ with_numbers (move_to txn (r.position + result) self.old.numbers) self.old }
+        ensures ticks { steps.new ≡ steps.old + result }
+    {
+        let code = code_of(&self.txns, txn);
+        self.lanes.run_local(place, 0, code, u32::MAX, steps)
+    }
+
+    // The shadow of the transaction at a place that waits for this guard, if there is one, makes Local steps until its next one is
+    // not Local or it stands at its point.
+    fn run_guard<L: Ledger>(
+        &mut self,
+        place: u32,
+        txn: u32,
+        guard: u32,
+        steps: &mut Steps<L>,
+    ) -> u32
+        requires place { (r : Started) × (slice_get self.old.numbers.started place ≡ Some r) × (find_started self.old.numbers.started txn ≡ Some r) }
+        ensures ran { (r : Started) → find_started self.old.numbers.started txn ≡ Some r → GuardRan self.old.numbers guard r self.new.numbers result ⊎ ((result ≡ 0) × (self.new.numbers ≡ self.old.numbers)) }
+        ensures told { self.new ≡ with_numbers self.new.numbers self.old }
+        ensures ticks { steps.new ≡ steps.old + result }
+    {
+        let Some(slot) = slot_for(self.lanes.conflicts(place), guard) else {
+            return 0;
+        };
+        let (_, point) = self.lanes.conflicts(place)[slot as usize - 1];
+        let position = self.lanes.state(place, slot).position();
+        let code = code_of(&self.txns, txn);
+        self.lanes
+            .run_local(place, slot, code, point - position, steps)
     }
 
     // The shadow in a slot of the transaction at a place.

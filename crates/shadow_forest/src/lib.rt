@@ -4,15 +4,19 @@
 #![tactic(auto)]
 
 mod answers;
+mod bench;
 mod committing;
 mod forest;
+mod giving;
 mod picking;
 mod priority;
+mod send;
 mod settling;
 mod txn;
 
 pub use answers::{
     BeginRefusal, CommitRefusal, Life, Resumed, ShadowView, Stepped, WithdrawRefusal,
 };
+pub use bench::{Bench, Given, Job};
 pub use forest::Forest;
 pub use forest_model::Did;

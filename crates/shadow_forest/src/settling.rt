@@ -26,6 +26,9 @@ pub(crate) fn wanted_at(lanes: &Lanes, place: u32, next: Option<u32>) -> ArrayVe
     ensures wanted { (r : Seat) → slice_get lanes.now.seats place ≡ Some r → result.items ≡ wanted_among lanes.now.most next lanes.now.seats r }
     ensures few { suc (length result.items) ≤ lanes.now.most }
 {
+    if lanes.most() == 1 {
+        return ArrayVec::new();
+    }
     let points = points_at(lanes, place, next);
     wanted(points.as_slice(), lanes.most())
 }
@@ -165,6 +168,11 @@ pub(crate) fn renew_readers(lanes: &mut Lanes, txns: &[Txn], writer: u32, item: 
     requires { AreCarried lanes.old.items txns.now lanes.old.seats }
     ensures { lanes.new ≡ record lanes.old { seats = readers_renewed lanes.old.most lanes.old.items txns.now writer item lanes.old.seats } }
 {
+    // the limits come with the number of the started
+    let _ = lanes.len();
+    if lanes.most() == 1 {
+        return;
+    }
     for place in 0..lanes.len() {
         if is_reader(lanes, place, writer, item) {
             renew_at(lanes, txns, place);

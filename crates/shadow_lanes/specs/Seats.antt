@@ -169,3 +169,7 @@ pub record AreSeats (s : Seated) : Type 0 where
 -- the new state is that after one step of the run of this program over these tables, whatever program that is
 abbrev pub StepsOver : List Node → List ℤ → Held → Held → Type 0
 StepsOver nodes tables old new = step.StepsOver nodes tables old new
+
+-- the new state is that after so many Local steps, of at most so many, whatever program and tables the run is of
+abbrev pub RunsLocal : List Node → ℕ → Held → Held → ℕ → Type 0
+RunsLocal nodes most old new made = step.RunsLocal nodes most old new made

@@ -1,7 +1,7 @@
 ghost use Rattle.std.specs.Prelude.{◌≡◌, ◌<◌, ◌≤◌, ◌+◌, suc, [], None, Some, false, length, map, slice_get, option_map, IfOk, MatchOption};
 ghost use Rattle.txn_interp.specs.State.{Held, Carries, Runs};
 ghost use Rattle.shadow_state.specs.Bank.{Slot, at_place, marked_slot};
-ghost use Rattle.shadow_lanes.specs.Seats.{Seat, Seated, AreSeats, find_seat, seats_with, seats_without, slots_of, slot_at, conflicts_of, stepped_slot, seat_with, recalled_seat, settled_seat, promoted_seat, started_of, StepsOver};
+ghost use Rattle.shadow_lanes.specs.Seats.{Seat, Seated, AreSeats, find_seat, seats_with, seats_without, slots_of, slot_at, conflicts_of, stepped_slot, seat_with, recalled_seat, settled_seat, promoted_seat, started_of, StepsOver, RunsLocal};
 ghost use Rattle.shadow_lanes.specs.Kept.{AreAll, place_in, succeeded, begun_again};
 ghost use Rattle.forest_model.specs.Origin.{placed_of};
 ghost use Rattle.std.specs.Vec.{vec_capacity};
@@ -228,6 +228,39 @@ impl Lanes {
         let lane = self.seats[place as usize].lane();
         self.bank.step(lane, slot, code, tables, steps);
         self.bank.set_out(lane, slot, false);
+    }
+
+    /// A shadow of the transaction at a place makes Local steps until its next one is not Local or so many are made, and is not out.
+    /// Answers their number. Each ticks once.
+    pub fn run_local<L: Ledger>(
+        &mut self,
+        place: u32,
+        slot: u32,
+        code: &Code,
+        most: u32,
+        steps: &mut Steps<L>,
+    ) -> u32
+        requires place { place < length self.old.seats }
+        requires slot { (r : Seat) → slice_get self.old.seats place ≡ Some r → slot < length (slots_of r) }
+        requires runs { (s : Slot) → slot_at self.old.seats place slot ≡ Some s → Runs code.now.nodes s.state }
+        ensures seats { (s : Slot) × (state : Held) × ((slot_at self.old.seats place slot ≡ Some s) × ((self.new ≡ record self.old { seats = at_place place (seat_with slot (stepped_slot state)) self.old.seats }) × RunsLocal code.now.nodes most s.state state result)) }
+        ensures ticks { steps.new ≡ steps.old + result }
+    {
+        let own = self.seats[place as usize].lane();
+        let made = self.bank.run_local(own, slot, code, most, steps);
+        self.bank.set_out(own, slot, false);
+        made
+    }
+
+    /// The state of a shadow of the transaction at a place becomes a copy of this one, and the shadow is not out.
+    pub fn store(&mut self, place: u32, slot: u32, state: &State)
+        requires place { place < length self.old.seats }
+        requires slot { (r : Seat) → slice_get self.old.seats place ≡ Some r → slot < length (slots_of r) }
+        requires room { state.now.log.room ≡ self.old.items }
+        ensures { self.new ≡ record self.old { seats = at_place place (seat_with slot (stepped_slot state.now)) self.old.seats } }
+    {
+        let lane = self.seats[place as usize].lane();
+        self.bank.store(lane, slot, state);
     }
 
     fn recall_seat(&mut self, place: u32)

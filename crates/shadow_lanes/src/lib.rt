@@ -7,7 +7,5 @@ mod fill;
 mod lanes;
 mod positions;
 mod seat;
-#[cfg(test)]
-mod tests;
 
 pub use lanes::Lanes;

@@ -2,7 +2,7 @@
 use Rattle.std.specs.Prelude.{◌≡◌, ◌<◌, ℕ, Bool, List, length, get_or, slice_get, slice_set, Option, None, Some}
 use Rattle.std.proofs.Common.{refl, ap, arith, ◌∙◌, length-set}
 use Rattle.txn_interp.specs.State.{Held}
-use Rattle.shadow_state.specs.Bank.{Slot, Sides, Banked, IsOver, IsSide, AreSides, IsBanked, at_place, put_some, forked, marked_slot, marked_in, with_state, state_in, lane_with}
+use Rattle.shadow_state.specs.Bank.{Slot, Sides, Banked, IsOver, IsSide, AreSides, IsBanked, at_place, put_some, forked, marked_slot, marked_in, with_state, state_in, stored_slot, stored_in, lane_with}
 use Rattle.shadow_state.proofs.Places.{get_at, set_at, length_at, all_at, all_get, all_set}
 
 pub slot_set : (lane : Sides) (present other : List Slot) (n : ℕ) (old new : Slot) (f : Slot → Slot) → record { present = present; other = other } ≡ lane → n < length lane.present → old ≡ get_or present n old → new ≡ f old → record { present = slice_set present n new; other = other } ≡ record lane { present = at_place n f lane.present }
@@ -51,3 +51,6 @@ forked_sides items most from to lane h =
 
 pub state_sides : (items most slot : ℕ) (state : Held) (lane : Sides) → state.log.room ≡ items → AreSides items most lane → AreSides items most (state_in slot state lane)
 state_sides items most slot state lane room h = record { present = side_at items most slot (with_state state) lane.present (λ s over. room) h.present; other = h.other }
+
+pub stored_sides : (items most slot : ℕ) (state : Held) (lane : Sides) → state.log.room ≡ items → AreSides items most lane → AreSides items most (stored_in slot state lane)
+stored_sides items most slot state lane room h = record { present = side_at items most slot (stored_slot state) lane.present (λ s over. room) h.present; other = h.other }

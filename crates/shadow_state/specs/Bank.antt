@@ -86,6 +86,14 @@ with_state state s = record s { state = state }
 abbrev pub state_in : ℕ → Held → Sides → Sides
 state_in slot state lane = record lane { present = at_place slot (with_state state) lane.present }
 
+-- the slot with this state, which is not out
+abbrev pub stored_slot : Held → Slot → Slot
+stored_slot state s = record { state = state; out = false }
+
+-- the present slot there has this state, and is not out
+abbrev pub stored_in : ℕ → Held → Sides → Sides
+stored_in slot state lane = record lane { present = at_place slot (stored_slot state) lane.present }
+
 -- the bank with one lane changed
 abbrev pub lane_with : ℕ → (Sides → Sides) → Banked → Banked
 lane_with lane f bank = record bank { sides = at_place lane f bank.sides }

@@ -31,8 +31,8 @@ impl Model for Bank {
 }
 
 impl Bank {
-    ghost use Rattle.shadow_state.specs.Bank.{Slot, Banked, AreSides, fresh_slot, forked, placed_slot, swapped, marked_in, state_in, lane_with, present_at};
-    ghost use Rattle.shadow_state.specs.Step.{StepsOver};
+    ghost use Rattle.shadow_state.specs.Bank.{Slot, Banked, AreSides, fresh_slot, forked, placed_slot, swapped, marked_in, state_in, stored_in, lane_with, present_at};
+    ghost use Rattle.shadow_state.specs.Step.{StepsOver, RunsLocal};
 
     /// A bank of so many lanes, with so many slots a side, for states over so many items, at most 1,024. Where memory runs out,
     /// `AllocError`; no other call takes memory.
@@ -138,6 +138,16 @@ impl Bank {
         self.lanes[lane as usize].set_out(slot, out);
     }
 
+    /// The state in a slot of the present side becomes a copy of this one, and is not out.
+    pub fn store(&mut self, lane: u32, slot: u32, state: &State)
+        requires lane { lane < length self.old.sides }
+        requires slot { slot < self.old.most }
+        requires room { state.now.log.room ≡ self.old.items }
+        ensures { self.new ≡ lane_with lane (stored_in slot state.now) self.old }
+    {
+        self.lanes[lane as usize].store(slot, self.items, state);
+    }
+
     /// The state in a slot of the present side makes a step over these tables. It ticks once.
     pub fn step<L: Ledger>(
         &mut self,
@@ -155,5 +165,24 @@ impl Bank {
         ensures tick { steps.new ≡ steps.old + 1 }
     {
         self.lanes[lane as usize].step(slot, code, tables, steps);
+    }
+
+    /// The state in a slot of the present side makes Local steps until the next one is not Local or so many are made, and answers
+    /// their number. Each ticks once.
+    pub fn run_local<L: Ledger>(
+        &mut self,
+        lane: u32,
+        slot: u32,
+        code: &Code,
+        most: u32,
+        steps: &mut Steps<L>,
+    ) -> u32
+        requires lane { lane < length self.old.sides }
+        requires slot { slot < self.old.most }
+        requires runs { (s : Slot) → present_at self.old lane slot ≡ Some s → Runs code.now.nodes s.state }
+        ensures run { (s : Slot) × (state : Held) × ((present_at self.old lane slot ≡ Some s) × ((self.new ≡ lane_with lane (state_in slot state) self.old) × RunsLocal code.now.nodes most s.state state result)) }
+        ensures ticks { steps.new ≡ steps.old + result }
+    {
+        self.lanes[lane as usize].run_local(slot, code, most, steps)
     }
 }

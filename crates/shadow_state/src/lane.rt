@@ -1,7 +1,7 @@
 ghost use Rattle.std.specs.Prelude.{◌≡◌, ◌<◌, ◌≤◌, ◌+◌, length, false, Some, slice_get, IfOk};
 ghost use Rattle.txn_interp.specs.State.{Held, Carries, Runs};
-ghost use Rattle.shadow_state.specs.Bank.{Slot, Sides, AreSides, IsSide, fresh_slot, forked, placed_slot, swapped, marked_in, state_in};
-ghost use Rattle.shadow_state.specs.Step.{StepsOver};
+ghost use Rattle.shadow_state.specs.Bank.{Slot, Sides, AreSides, IsSide, fresh_slot, forked, placed_slot, swapped, marked_in, state_in, stored_in};
+ghost use Rattle.shadow_state.specs.Step.{StepsOver, RunsLocal};
 
 use crate::slot::KeptSlot;
 use item_table::Table;
@@ -79,6 +79,16 @@ impl Lane {
         self.present[to as usize].copy_from(&self.other[from as usize]);
     }
 
+    /// The state in a slot of the present side becomes a copy of this one, and is not out.
+    pub fn store(&mut self, slot: u32, items: u32, state: &State)
+        requires slot { slot < length self.old.present }
+        requires side { IsSide items (length self.old.present) self.old.present }
+        requires room { state.now.log.room ≡ items }
+        ensures { self.new ≡ stored_in slot state.now self.old }
+    {
+        self.present[slot as usize].store(state);
+    }
+
     /// The state in a slot of the present side makes a step over these tables. It ticks once.
     pub fn step<L: Ledger>(&mut self, slot: u32, code: &Code, tables: &Table, steps: &mut Steps<L>)
         requires slot { slot < length self.old.present }
@@ -88,6 +98,23 @@ impl Lane {
         ensures tick { steps.new ≡ steps.old + 1 }
     {
         self.present[slot as usize].step(code, tables, steps);
+    }
+
+    /// The state in a slot of the present side makes Local steps until the next one is not Local or so many are made, and answers
+    /// their number. Each ticks once.
+    pub fn run_local<L: Ledger>(
+        &mut self,
+        slot: u32,
+        code: &Code,
+        most: u32,
+        steps: &mut Steps<L>,
+    ) -> u32
+        requires slot { slot < length self.old.present }
+        requires runs { (s : Slot) → slice_get self.old.present slot ≡ Some s → Runs code.now.nodes s.state }
+        ensures run { (s : Slot) × (state : Held) × ((slice_get self.old.present slot ≡ Some s) × ((self.new ≡ state_in slot state self.old) × RunsLocal code.now.nodes most s.state state result)) }
+        ensures ticks { steps.new ≡ steps.old + result }
+    {
+        self.present[slot as usize].run_local(code, most, steps)
     }
 }
 

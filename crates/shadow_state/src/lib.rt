@@ -6,7 +6,5 @@
 mod bank;
 mod lane;
 mod slot;
-#[cfg(test)]
-mod tests;
 
 pub use bank::Bank;

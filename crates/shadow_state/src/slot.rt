@@ -1,7 +1,7 @@
 ghost use Rattle.std.specs.Prelude.{◌≡◌, ◌≤◌, ◌+◌, IfOk, false, length};
 ghost use Rattle.txn_interp.specs.State.{Carries, Runs};
-ghost use Rattle.shadow_state.specs.Bank.{Slot, IsOver, fresh_slot, marked_slot};
-ghost use Rattle.shadow_state.specs.Step.{StepsOver};
+ghost use Rattle.shadow_state.specs.Bank.{Slot, IsOver, fresh_slot, marked_slot, stored_slot};
+ghost use Rattle.shadow_state.specs.Step.{StepsOver, RunsLocal};
 
 use item_table::Table;
 use std::alloc::{AllocError, Global};
@@ -64,6 +64,15 @@ impl KeptSlot {
         self.out = other.out;
     }
 
+    /// The state becomes a copy of this one, and is not out.
+    pub fn store(&mut self, state: &State)
+        requires { self.old.state.log.room ≡ state.now.log.room }
+        ensures { self.new ≡ stored_slot state.now self.old }
+    {
+        self.state.copy_from(state);
+        self.set_out(false);
+    }
+
     /// Is at the start of the code's program, and not out.
     pub fn restart(&mut self, code: &Code)
         requires { Carries code.now.nodes self.old.state.log.room }
@@ -88,5 +97,15 @@ impl KeptSlot {
             Kind::Write { .. } => self.state.step_write(code, steps),
             Kind::Ended => unreachable!(),
         }
+    }
+
+    /// The state makes Local steps until the next one is not Local or so many are made, and answers their number. Each ticks once.
+    pub fn run_local<L: Ledger>(&mut self, code: &Code, most: u32, steps: &mut Steps<L>) -> u32
+        requires { Runs code.now.nodes self.old.state }
+        ensures out { self.new.out ≡ self.old.out }
+        ensures run { RunsLocal code.now.nodes most self.old.state self.new.state result }
+        ensures ticks { steps.new ≡ steps.old + result }
+    {
+        self.state.run_local(code, most, steps)
     }
 }

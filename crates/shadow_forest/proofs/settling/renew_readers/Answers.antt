@@ -2,9 +2,12 @@ use Rattle.std.proofs.Common.{◌≡◌, ◌<◌, Some, length, slice_get, refl,
 use Rattle.shadow_lanes.specs.Seats.{Seat}
 use Rattle.shadow_forest.specs.Parts.{reader_renewed}
 use Rattle.shadow_forest.proofs.Places.{slice_get-some}
-use Rattle.shadow_forest.proofs.Renewing.{is_reader, renewing_more, renewing_still, renewing_next, renewing_carried}
+use Rattle.shadow_forest.proofs.Renewing.{is_reader, renewing_more, renewing_still, renewing_next, renewing_carried, one-renewed}
 use Rattle.shadow_forest.proofs.settling.renew_readers.Goals as goal
 use Rattle.shadow_forest.proofs.settling.renew_readers.Goals.{then-is_reader, else-is_reader}
+
+pub returns-then-most-eq1 : goal.returns-then-most-eq1
+returns-then-most-eq1 c = one-renewed c.args.lanes.now c.args.txns.now c.args.writer c.args.item c.len.ensures.seats (sym c.most.ensures ∙ c.if-most-eq1.true)
 
 pub renew_at-requires-clause-carried : goal.renew_at-requires-clause-carried
 renew_at-requires-clause-carried c =

@@ -1,5 +1,4 @@
 use Rattle.std.proofs.Common.{◌≡◌, ◌+◌, ◌<◌, ◌^◌}
-use Rattle.forest_model.specs.Work.{work}
 use Rattle.forest_model.specs.Drain.{run_idle}
 use Rattle.shadow_forest.proofs.forest.Forest.run_idle.Given as goal
 
@@ -14,4 +13,4 @@ invariant-loop-row g l = record {
 }
 
 abbrev pub decreases-loop-row : goal.decreases-loop-row
-decreases-loop-row g l = work l.self.numbers
+decreases-loop-row g l = (run_idle l.self.numbers).0

@@ -1,0 +1,12 @@
+use Rattle.std.proofs.Common.{ap, sym, subst}
+use Rattle.shadow_forest.specs.View.{View}
+use Rattle.forest_model.specs.Forest.{Forest}
+use Rattle.forest_tests.specs.Stage.{AllFit}
+use Rattle.forest_tests.proofs.Lasting.{fit-lasts, idle-lasts}
+use Rattle.forest_tests.proofs.stage.Stage.run_idle.Goals as goal
+
+pub invariant_of-self : goal.invariant_of-self
+invariant_of-self g c =
+    let v = c.self.inside.forest in
+    let is = ap (λ (w : View). w.numbers) c.run_idle.ensures.next in
+    subst (λ (f : Forest). AllFit f c.self.inside.benches.items) (sym is) (fit-lasts _ _ (idle-lasts v.numbers c.journal.ensures.sound) _ c.self.invariant)
