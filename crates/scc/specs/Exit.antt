@@ -1,7 +1,7 @@
 -- The exit status of each end.
 use Rattle.std.specs.Prelude.{ℕ}
-use Rattle.scc_script.specs.declared.status.Status.{Status}
-use Rattle.scc_script.specs.declared.status.Status.TheVariants.{Done, BadWords, BadInput, ReadFault, WriteFault, OutOfMemory, InputLimit, AuditNo}
+use Rattle.scc_replies.specs.declared.status.Status.{Status}
+use Rattle.scc_replies.specs.declared.status.Status.TheVariants.{Done, BadWords, BadInput, ReadFault, WriteFault, OutOfMemory, InputLimit, AuditNo}
 
 abbrev pub exit_code_of : Status → ℕ
 exit_code_of Done = 0

@@ -1,8 +1,9 @@
 // The calls that do all that the program does.
-ghost use Rattle.std.specs.Prelude.{◌≡◌, ◌≢◌, ℕ, List, map, string_bytes};
+ghost use Rattle.std.specs.Prelude.{◌≡◌, ◌≤◌, ℕ, List, map, string_bytes};
 ghost use Rattle.scc_ports.specs.Ports.{Rose};
 ghost use Rattle.scc_script.specs.Ran.{ScriptRan};
-ghost use Rattle.scc.specs.Words.{Spells, SpellsScript};
+ghost use Rattle.serial_text.specs.Told.{PrintedSerially};
+ghost use Rattle.scc.specs.Served.{Served, outside};
 ghost use Rattle.scc.specs.Exit.{exit_code_of};
 
 use crate::words::{BadWords, Mode, read_words};
@@ -25,23 +26,10 @@ pub fn scc_top<R: Threads + Wait, S: Source, K: Sink, G: Gate + Sync, L: Ledger>
     _gate: &G,
     steps: &mut Steps<L>,
 ) -> Status
-    // `script K LANES`: there are bytes that were read, and each end says what was written and how many steps were made.
-    ensures script { (k lanes : ℕ) → SpellsScript (map string_bytes words.now) k lanes →
-        (read : List ℕ) × ScriptRan k lanes result read (S.left source.old) (S.left source.new) (K.written sink.old) (K.written sink.new) steps.old steps.new }
-
-    // Bad words are exactly those that name no mode, and then nothing was done.
-    ensures bad_words { result ≡ Status.BadWords → (mode : Mode) → ¬ Spells (map string_bytes words.now) mode }
-    ensures good_words { (mode : Mode) → Spells (map string_bytes words.now) mode → result ≢ Status.BadWords }
-    ensures other_words { ((mode : Mode) → ¬ Spells (map string_bytes words.now) mode) → result ≡ Status.BadWords }
+    ensures served { Served (map string_bytes words.now) result
+        (outside (S.left source.old) (S.faults source.old) (K.written sink.old) (K.faults sink.old) steps.old)
+        (outside (S.left source.new) (S.faults source.new) (K.written sink.new) (K.faults sink.new) steps.new) }
     ensures nothing { result ≡ Status.BadWords → (source.new ≡ source.old) × (sink.new ≡ sink.old) × (steps.new ≡ steps.old) }
-
-    // A fault is told only where the count of that object rose meanwhile, or can rise no more.
-    ensures read_fault { result ≡ Status.ReadFault → Rose (S.faults source.old) (S.faults source.new) }
-    ensures write_fault { result ≡ Status.WriteFault → Rose (K.faults sink.old) (K.faults sink.new) }
-
-    // These ends belong to modes that are not there yet.
-    ensures no_bad_input { (line : ℕ) → result ≢ Status.BadInput line }
-    ensures no_audit { (line : ℕ) → result ≢ Status.AuditNo line }
 {
     scc_plain(alloc, words, source, sink, steps)
 }
@@ -55,21 +43,36 @@ pub fn scc_plain<S: Source, K: Sink, L: Ledger>(
     sink: &mut K,
     steps: &mut Steps<L>,
 ) -> Status
-    ensures script { (k lanes : ℕ) → SpellsScript (map string_bytes words.now) k lanes →
-        (read : List ℕ) × ScriptRan k lanes result read (S.left source.old) (S.left source.new) (K.written sink.old) (K.written sink.new) steps.old steps.new }
-    ensures bad_words { result ≡ Status.BadWords → (mode : Mode) → ¬ Spells (map string_bytes words.now) mode }
-    ensures good_words { (mode : Mode) → Spells (map string_bytes words.now) mode → result ≢ Status.BadWords }
-    ensures other_words { ((mode : Mode) → ¬ Spells (map string_bytes words.now) mode) → result ≡ Status.BadWords }
+    ensures served { Served (map string_bytes words.now) result
+        (outside (S.left source.old) (S.faults source.old) (K.written sink.old) (K.faults sink.old) steps.old)
+        (outside (S.left source.new) (S.faults source.new) (K.written sink.new) (K.faults sink.new) steps.new) }
     ensures nothing { result ≡ Status.BadWords → (source.new ≡ source.old) × (sink.new ≡ sink.old) × (steps.new ≡ steps.old) }
-    ensures read_fault { result ≡ Status.ReadFault → Rose (S.faults source.old) (S.faults source.new) }
-    ensures write_fault { result ≡ Status.WriteFault → Rose (K.faults sink.old) (K.faults sink.new) }
-    ensures no_bad_input { (line : ℕ) → result ≢ Status.BadInput line }
-    ensures no_audit { (line : ℕ) → result ≢ Status.AuditNo line }
 {
     match read_words(words) {
-        Ok(Mode::Script { k, lanes }) => script(alloc, k, lanes, source, sink, steps),
+        Ok(Mode::Script { k, lanes }) => serial_script(alloc, k, lanes, source, sink, steps),
         Err(BadWords) => Status::BadWords,
     }
+}
+
+// A script, whose text is that of a serial run.
+fn serial_script<S: Source, K: Sink, L: Ledger>(
+    alloc: Global,
+    k: u32,
+    lanes: u32,
+    source: &mut S,
+    sink: &mut K,
+    steps: &mut Steps<L>,
+) -> Status
+    requires least { 1 ≤ k }
+    requires most { k ≤ 8 }
+    requires some { 1 ≤ lanes }
+    requires many { lanes ≤ 64 }
+    ensures ran { (read : List ℕ) × ScriptRan k lanes result read (S.left source.old) (S.left source.new) (K.written sink.old) (K.written sink.new) steps.old steps.new
+        × PrintedSerially result read (K.written sink.old) (K.written sink.new) }
+    ensures read_fault { result ≡ Status.ReadFault → Rose (S.faults source.old) (S.faults source.new) }
+    ensures write_fault { result ≡ Status.WriteFault → Rose (K.faults sink.old) (K.faults sink.new) }
+{
+    script(alloc, k, lanes, source, sink, steps)
 }
 
 /// The exit status of an end: 0, or one from 2 to 8.
@@ -101,16 +104,11 @@ pub fn top_uncounted<L: Ledger, R: Threads + Wait, S: Source, K: Sink, G: Gate +
     requires name { blank.name ≡ L.name }
     requires parts { blank.parts ≡ L.parts }
     requires one { blank.parts ≡ 1 }
-    ensures script { (k lanes : ℕ) → SpellsScript (map string_bytes words.now) k lanes →
-        (read : List ℕ) × (steps : ℕ) × ScriptRan k lanes result read (S.left source.old) (S.left source.new) (K.written sink.old) (K.written sink.new) 0 steps }
-    ensures bad_words { result ≡ Status.BadWords → (mode : Mode) → ¬ Spells (map string_bytes words.now) mode }
-    ensures good_words { (mode : Mode) → Spells (map string_bytes words.now) mode → result ≢ Status.BadWords }
-    ensures other_words { ((mode : Mode) → ¬ Spells (map string_bytes words.now) mode) → result ≡ Status.BadWords }
+    // There is a number of steps with which the same holds.
+    ensures served { (steps : ℕ) × Served (map string_bytes words.now) result
+        (outside (S.left source.old) (S.faults source.old) (K.written sink.old) (K.faults sink.old) 0)
+        (outside (S.left source.new) (S.faults source.new) (K.written sink.new) (K.faults sink.new) steps) }
     ensures nothing { result ≡ Status.BadWords → (source.new ≡ source.old) × (sink.new ≡ sink.old) }
-    ensures read_fault { result ≡ Status.ReadFault → Rose (S.faults source.old) (S.faults source.new) }
-    ensures write_fault { result ≡ Status.WriteFault → Rose (K.faults sink.old) (K.faults sink.new) }
-    ensures no_bad_input { (line : ℕ) → result ≢ Status.BadInput line }
-    ensures no_audit { (line : ℕ) → result ≢ Status.AuditNo line }
 {
     let mut steps = Steps::<L>::new(blank);
     scc_top(rt, alloc, words, source, sink, gate, &mut steps)

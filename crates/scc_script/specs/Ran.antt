@@ -4,13 +4,14 @@ use Rattle.scc_text.specs.declared.command.Dialect.TheVariants as dialect
 use Rattle.line_loop.specs.Meaning.{Ran}
 use Rattle.line_loop.specs.declared.ending.Ending.{Ending}
 use Rattle.line_loop.specs.declared.ending.Ending.TheVariants as ending
-use Rattle.scc_script.specs.declared.status.Status.{Status}
-use Rattle.scc_script.specs.declared.status.Status.TheVariants as status
+use Rattle.scc_replies.specs.declared.status.Status.{Status}
+use Rattle.scc_replies.specs.declared.status.Status.TheVariants as status
 use Rattle.scc_script.specs.Text.{meaning, opening_script}
 
--- an end of the loop over lines, as a run's status
+-- an end of the loop over lines, as a run's status; a script never stops before the end of its input
 abbrev pub status_of : Ending → Status
 status_of ending.Done = status.Done
+status_of ending.Stopped = status.Done
 status_of ending.ReadFault = status.ReadFault
 status_of ending.WriteFault = status.WriteFault
 status_of ending.OutOfMemory = status.OutOfMemory

@@ -5,31 +5,25 @@ ghost use Rattle.txn_names.specs.Tables.{items_of};
 ghost use Rattle.txn_syntax.specs.Reads.{read_of};
 ghost use Rattle.journal_core.specs.Journal.{commits};
 ghost use Rattle.forest_model.specs.Events.{begin as begin_of};
-ghost use Rattle.scc_text.specs.declared.command.Dialect.TheVariants as dialects;
 ghost use Rattle.scc_text.specs.Command.{IsInRange};
-ghost use Rattle.scc_text.specs.Words.{words_of};
 ghost use Rattle.shadow_forest.specs.View.{opened_view};
-ghost use Rattle.scc_script.specs.Opening.{IsSetting};
-ghost use Rattle.scc_script.specs.Finals.{final_lines};
+ghost use Rattle.scc_setup.specs.Opening.{IsSetting};
 ghost use Rattle.scc_script.specs.Text as spec;
-ghost use Rattle.scc_script.specs.Text.{opening_script, setting_line, setting_answer, begin_answer, begun_answer, seal_answer, step_answer, run_answer, commit_answer, withdraw_answer, drain_answer, show_answer, dump_answer, command_answer, spelled, end_lines};
+ghost use Rattle.scc_script.specs.Text.{opening_script, setting_answer, begin_answer, begun_answer, seal_answer, step_answer, run_answer, commit_answer, withdraw_answer, drain_answer, show_answer, dump_answer, command_answer, end_lines};
 
 use crate::events::{begin_in, commit_in, drain_in, run_in, show_in, step_in, withdraw_in};
-use crate::reply::{
-    put_final, put_limit, put_number_line, put_refusal, put_refusal_at, put_row, put_table,
-    put_value,
-};
-use crate::setup::{Setup, SetupRefusal};
 use block_rule::Role;
 use item_table::Table;
-use line_loop::Machine;
-use scc_text::{Command, Dialect, next_word, program_text, read_command};
+use line_loop::{Flow, Machine};
+use scc_replies::{put_end, put_finals, put_number_line, put_refusal, put_row, put_unread};
+use scc_setup::{Setup, SetupRefusal, put_setting, read_line};
+use scc_text::{Command, Dialect, program_text};
 use shadow_forest::Forest;
 use std::alloc::{AllocError, Global};
 use std::marker::Model;
 use std::sync::ledger::Ledger;
 use step_count::Steps;
-use txn_syntax::{Names, Program, ReadRefusal, read_program};
+use txn_syntax::{Program, read_program};
 
 /// A script under way: its tables as they were before the forest was opened, and its forest from the first accepted `begin` or
 /// `seal` on.
@@ -159,10 +153,7 @@ impl ScriptState {
     {
         match read_program(self.alloc, self.setup.names(), bytes) {
             Ok(program) => self.begin_program(program, deadline, out),
-            Err(ReadRefusal::Syntax { at }) => put_refusal_at(out, 14, at),
-            Err(ReadRefusal::UnknownTable { at }) => put_refusal_at(out, 16, at),
-            Err(ReadRefusal::Limit { which }) => put_limit(out, which),
-            Err(ReadRefusal::OutOfMemory) => Err(AllocError),
+            Err(refusal) => put_unread(out, refusal),
         }
     }
 
@@ -312,37 +303,7 @@ impl ScriptState {
         ensures { OnOk result (out.new.items ≡ out.old.items ++ end_lines self.now) }
     {
         put_finals(self.setup.names(), self.tables(), out)?;
-        put_number_line(out, b"end ", self.commits() as u64)
-    }
-}
-
-// The command of a dialect that a line spells; a script has no `journal` yet.
-fn read_line(dialect: Dialect, line: &[u8]) -> Result<Command, u8>
-    requires { length line.now ≤ 8192 }
-    ensures command { result ≡ spelled dialect line.now }
-    ensures ranges { IfOk result (IsInRange (length line.now)) }
-{
-    if is_unbuilt(dialect, line) {
-        return Err(12);
-    }
-    read_command(dialect, line)
-}
-
-fn is_unbuilt(dialect: Dialect, line: &[u8]) -> bool
-    ensures { result ≡ spec.is_unbuilt dialect (words_of line.now) }
-{
-    match dialect {
-        Dialect::Script => names_journal(line),
-        Dialect::Batch | Dialect::Audit | Dialect::Session => false,
-    }
-}
-
-fn names_journal(line: &[u8]) -> bool
-    ensures { result ≡ spec.names_journal (words_of line.now) }
-{
-    match next_word(line, 0) {
-        Some(word) => &line[word.from..word.to] == b"journal".as_slice(),
-        None => false,
+        put_end(out, self.commits())
     }
 }
 
@@ -367,54 +328,38 @@ fn open_forest(alloc: Global, setup: &Setup, k: u32, lanes: u32) -> Result<Fores
     Forest::open(alloc, setup.table().copy()?, k, lanes)
 }
 
-// The reply to a `table` or `put` line that was accepted.
-fn put_setting(out: &mut Vec<u8>, line: &[u8], command: &Command) -> Result<(), AllocError>
-    requires { IsSetting (length line.now) command.now }
-    ensures { OnOk result (out.new.items ≡ out.old.items ++ setting_line line.now command.now) }
-{
-    match *command {
-        Command::Table { name, size } => put_table(out, &line[name.from..name.to], size),
-        Command::Put { name, index, value } => {
-            put_value(out, &line[name.from..name.to], index, value)
-        }
-        _ => Ok(()),
-    }
-}
-
-// Appends the last values of each table.
-fn put_finals(names: &Names, tables: &Table, out: &mut Vec<u8>) -> Result<(), AllocError>
-    requires { length tables.now ≡ items_of names.now }
-    ensures { OnOk result (out.new.items ≡ out.old.items ++ final_lines tables.now 0 names.now) }
-{
-    for number in 0..names.count() {
-        let table = names.table(number);
-        put_final(out, names.name(number), tables.row(table.base, table.size))?;
-    }
-    Ok(())
-}
-
 impl Machine for ScriptState {
-    ghost next = { λ s line. (spec.answer dialects.Script s line).next };
+    ghost use Rattle.line_loop.specs.Meaning.{behaviour_of};
+    ghost use Rattle.scc_text.specs.declared.command.Dialect.TheVariants as dialects;
+    ghost use Rattle.scc_script.specs.Text.{meaning};
 
-    ghost reply = { λ s line. (spec.answer dialects.Script s line).reply };
+    ghost most = { 8192 };
 
-    ghost ticks = { λ s line. (spec.answer dialects.Script s line).ticks };
+    ghost answers = { (behaviour_of (meaning dialects.Script)).answers };
 
-    ghost ending = { λ s. end_lines s };
+    ghost works = { (behaviour_of (meaning dialects.Script)).works };
+
+    ghost fails = { (behaviour_of (meaning dialects.Script)).fails };
+
+    ghost ends = { (behaviour_of (meaning dialects.Script)).ends };
 
     fn answer<L: Ledger>(
         &mut self,
         line: &[u8],
         out: &mut Vec<u8>,
         steps: &mut Steps<L>,
-    ) -> Result<(), AllocError> {
-        self.answer_line(Dialect::Script, line, out, steps)
+    ) -> Result<Flow, AllocError> {
+        self.answer_line(Dialect::Script, line, out, steps)?;
+        Ok(Flow::GoOn)
     }
 
     #[tactic(auto, using(crate::proofs::Long::too_long))]
-    fn answer_too_long(&mut self, out: &mut Vec<u8>) -> Result<(), AllocError> {
-        put_refusal(out, 11)
+    fn answer_too_long(&mut self, out: &mut Vec<u8>) -> Result<Flow, AllocError> {
+        put_refusal(out, 11)?;
+        Ok(Flow::GoOn)
     }
+
+    fn work<L: Ledger>(&mut self, _steps: &mut Steps<L>) {}
 
     fn finish(&self, out: &mut Vec<u8>) -> Result<(), AllocError> {
         self.put_end(out)

@@ -1,0 +1,40 @@
+-- What the calls that do all that the program does promise.
+use Rattle.std.specs.Prelude.{◌≡◌, ◌≢◌, ℕ, List, Option}
+use Rattle.scc_ports.specs.Ports.{Rose}
+use Rattle.scc_replies.specs.declared.status.Status.{Status}
+use Rattle.scc_replies.specs.declared.status.Status.TheVariants.{BadWords, BadInput, ReadFault, WriteFault, AuditNo}
+use Rattle.scc_script.specs.Ran.{ScriptRan}
+use Rattle.serial_text.specs.Told.{PrintedSerially}
+use Rattle.scc.specs.declared.words.Mode.{Mode}
+use Rattle.scc.specs.Words.{Spells, SpellsScript}
+
+-- what a source, a sink and a counter of steps tell at one time
+pub record Outside : Type 0 where
+  pub left : Option (List ℕ)
+  pub read_faults : ℕ
+  pub written : Option (List ℕ)
+  pub write_faults : ℕ
+  pub steps : ℕ
+
+abbrev pub outside : Option (List ℕ) → ℕ → Option (List ℕ) → ℕ → ℕ → Outside
+outside left read_faults written write_faults steps =
+    record { left = left; read_faults = read_faults; written = written; write_faults = write_faults; steps = steps }
+
+-- A call with these words that ended so.
+pub record Served (words : List (List ℕ)) (status : Status) (before after : Outside) : Type 0 where
+  -- `script K LANES`: there are bytes that were read, and each end says what was written and how many steps were made. What was written
+  -- is the text of a serial run: the printed commits, run alone in printed order from the values that were put, give the printed
+  -- outcomes and final lines.
+  pub script : (k lanes : ℕ) → SpellsScript words k lanes
+      → (read : List ℕ) × ScriptRan k lanes status read before.left after.left before.written after.written before.steps after.steps
+      × PrintedSerially status read before.written after.written
+  -- bad words are exactly those that name no mode
+  pub bad_words : status ≡ BadWords → (mode : Mode) → ¬ Spells words mode
+  pub good_words : (mode : Mode) → Spells words mode → status ≢ BadWords
+  pub other_words : ((mode : Mode) → ¬ Spells words mode) → status ≡ BadWords
+  -- a fault is told only where the count of that object rose meanwhile, or can rise no more
+  pub read_fault : status ≡ ReadFault → Rose before.read_faults after.read_faults
+  pub write_fault : status ≡ WriteFault → Rose before.write_faults after.write_faults
+  -- these ends belong to modes that are not there yet
+  pub no_bad_input : (line : ℕ) → status ≢ BadInput line
+  pub no_audit : (line : ℕ) → status ≢ AuditNo line

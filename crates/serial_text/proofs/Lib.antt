@@ -1,0 +1,12 @@
+pub mod Noting
+pub mod Printing
+pub mod Cuts
+pub mod Reading
+pub mod Agreeing
+pub mod Behind
+pub mod PlainNames
+pub mod Pieces
+pub mod Pairs
+pub mod Splits
+mod Wrongs
+mod WrongFinals

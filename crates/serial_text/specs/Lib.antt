@@ -1,0 +1,5 @@
+pub mod Forms
+pub mod Notes
+pub mod Serial
+pub mod Told
+pub mod Wrong
