@@ -5,8 +5,6 @@
 
 mod role;
 mod standing;
-#[cfg(test)]
-mod tests;
 
 pub use role::{Origin, Role, Row};
 pub use standing::{Standing, status};

@@ -32,6 +32,3 @@ pub fn survives(position: u32, cut: Option<u32>) -> bool
         None => true,
     }
 }
-
-#[cfg(test)]
-mod tests;

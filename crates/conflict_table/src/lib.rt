@@ -18,6 +18,3 @@ pub fn point(reads: &ReadLog, writes: &WriteSet) -> Option<u32>
 {
     reads.first_in(writes)
 }
-
-#[cfg(test)]
-mod tests;

@@ -1,7 +1,13 @@
-//! Tests that cross the crates of programs, runs and journals.
+//! Tests of tables, sets and journals, and of what crosses the crates of programs and runs.
 #![tactic(auto)]
 
 #[cfg(test)]
+mod journals;
+#[cfg(test)]
 mod runs;
+#[cfg(test)]
+mod sets;
+#[cfg(test)]
+mod tables;
 #[cfg(test)]
 mod tests;

@@ -185,26 +185,66 @@ pub fn copied<L: Ledger>(
         return Ok(false);
     }
     let code = link(alloc, &program)?;
-    let mut second_code = Code::room(alloc)?;
-    second_code.copy_from(&code);
     let mut state = begin(alloc, &program, &code, tables.len())?;
-    let mut second = State::room(alloc, tables.len())?;
     let mut steps = Steps::<L>::new(blank);
-    let before = goes_on(alloc, &program, &mut state, &code, tables, at, &mut steps)?;
-    second.copy_from(&state);
-    let copy = goes_on(
+    Ok(copy_goes_on(
+        alloc, &program, &mut state, &code, tables, at, until, &mut steps,
+    )?)
+}
+
+// Copies a run and its code after so many steps, and lets both go on.
+fn copy_goes_on<L: Ledger>(
+    alloc: Global,
+    program: &Program,
+    state: &mut State,
+    code: &Code,
+    tables: &Table,
+    at: u32,
+    until: u32,
+    steps: &mut Steps<L>,
+) -> Result<bool, AllocError>
+    requires runs { Runs code.now.nodes state.old }
+    requires room { state.old.log.room ≡ length tables.now }
+{
+    let mut second_code = Code::room(alloc)?;
+    second_code.copy_from(code);
+    let mut second = State::room(alloc, tables.len())?;
+    let before = goes_on(alloc, program, state, code, tables, at, steps)?;
+    second.copy_from(state);
+    let both = both_go_on(
         alloc,
-        &program,
+        program,
+        state,
+        code,
         &mut second,
         &second_code,
         tables,
         until,
-        &mut steps,
+        steps,
     )?;
-    let source = goes_on(
-        alloc, &program, &mut state, &code, tables, until, &mut steps,
-    )?;
-    Ok(before && copy && source && second.ended() && state.ended())
+    Ok(before && both)
+}
+
+// Lets a copy go on to the end, and then its source.
+fn both_go_on<L: Ledger>(
+    alloc: Global,
+    program: &Program,
+    state: &mut State,
+    code: &Code,
+    second: &mut State,
+    second_code: &Code,
+    tables: &Table,
+    until: u32,
+    steps: &mut Steps<L>,
+) -> Result<bool, AllocError>
+    requires runs { Runs code.now.nodes state.old }
+    requires room { state.old.log.room ≡ length tables.now }
+    requires second_runs { Runs second_code.now.nodes second.old }
+    requires second_room { second.old.log.room ≡ length tables.now }
+{
+    let copy = goes_on(alloc, program, second, second_code, tables, until, steps)?;
+    let source = goes_on(alloc, program, state, code, tables, until, steps)?;
+    Ok(copy && source && second.ended() && state.ended())
 }
 
 // Runs a state by its local steps, at most so many at once, and one step by hand behind each such run, to its end: how many local

@@ -83,6 +83,3 @@ fn further(found: Option<(Role, u32)>, placed: (Role, u32)) -> Option<(Role, u32
         _ => Some(placed),
     }
 }
-
-#[cfg(test)]
-mod tests;

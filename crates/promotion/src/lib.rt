@@ -22,6 +22,3 @@ pub fn heir(positions: &[(Role, u32)], cut: u32) -> Origin
 {
     copied(positions, cut)
 }
-
-#[cfg(test)]
-mod tests;

@@ -75,6 +75,3 @@ pub fn folding()
     ensures other { (rows : List RowOf) (row : RowOf) → is_ready_of row ≡ false
         → pick_of (rows ++ row ∷ []) ≡ pick_of rows }
 {}
-
-#[cfg(test)]
-mod tests;

@@ -60,6 +60,3 @@ fn is_sooner(a: (u32, u32), b: (u32, u32)) -> bool
 {
     a.1 < b.1 || (a.1 == b.1 && a.0 < b.0)
 }
-
-#[cfg(test)]
-mod tests;

@@ -77,6 +77,3 @@ impl WaitList {
         let _waited = self.line.remove(&(deadline, txn));
     }
 }
-
-#[cfg(test)]
-mod tests;

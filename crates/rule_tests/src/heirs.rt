@@ -1,5 +1,5 @@
-use crate::heir;
 use block_rule::{Origin, Role};
+use promotion::heir;
 
 const OPTIMISTIC: Role = Role::Optimistic;
 

@@ -1,4 +1,4 @@
-use crate::{Role, Standing, status};
+use block_rule::{Role, Standing, status};
 
 #[test]
 fn stands_as_the_rule_says(rt: HostRuntime) {

@@ -1,4 +1,4 @@
-use crate::Table;
+use item_table::Table;
 use std::test::Fail;
 
 #[test]

@@ -1,5 +1,5 @@
-use crate::WaitList;
 use std::test::Fail;
+use wait_list::WaitList;
 
 #[test]
 fn the_smallest_deadline_is_first(rt: HostRuntime) -> Result<(), Fail> {

@@ -1,4 +1,4 @@
-use crate::wanted;
+use replacement::wanted;
 
 #[test]
 fn keeps_what_blocks_first(rt: HostRuntime) {

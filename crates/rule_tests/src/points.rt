@@ -1,5 +1,5 @@
-use crate::point;
 use access_sets::{ReadLog, WriteSet};
+use conflict_table::point;
 use std::test::Fail;
 
 #[test]

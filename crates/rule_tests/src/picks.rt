@@ -1,5 +1,5 @@
-use crate::{earlier, folding, is_earlier, is_ready, pick};
 use block_rule::{Role, Row, Standing};
+use ready_order::{earlier, folding, is_earlier, is_ready, pick};
 
 // A runnable shadow that is not out.
 fn row(txn: u32, deadline: u64, role: Role, place: u32) -> Row {

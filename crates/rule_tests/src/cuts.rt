@@ -1,5 +1,5 @@
-use crate::{cut, survives};
 use access_sets::{ReadLog, WriteSet};
+use commit_rule::{cut, survives};
 use std::test::Fail;
 
 #[test]

@@ -1,5 +1,5 @@
-use crate::{copied, origin};
 use block_rule::{Origin, Role};
+use fork_rule::{copied, origin};
 
 const OPTIMISTIC: Role = Role::Optimistic;
 

@@ -1,4 +1,4 @@
-use crate::{ReadLog, WriteSet, agreeing_tables};
+use access_sets::{ReadLog, WriteSet, agreeing_tables};
 use item_table::Table;
 use std::test::Fail;
 
