@@ -16,7 +16,7 @@ eq_false : (a b : ℕ) → nat_eq a b ≡ false → a ≢ b
 eq_false a b e = grind (arith, e)
 
 -- items below all entries have nothing
-found_below : (es : Entries) (from room item : ℕ) → AreAscending from room es → item < from → found es item ≡ None
+pub found_below : (es : Entries) (from room item : ℕ) → AreAscending from room es → item < from → found es item ≡ None
 found_below [] from room item h lt = refl
 found_below (e ∷ es) from room item h lt =
     let ne : nat_eq e.0 item ≡ false = grind (arith, h.0, lt) in
@@ -74,10 +74,10 @@ put_map (suc many) from (suc k) item es fs v at lt h =
     λ i. h.1 from (λ e. absurd (omega (arith, e, at))) i ∷ put_map many (suc from) k item es fs v (omega (arith, at)) (omega arith) h i
 
 -- entries without an item, and what is put between them
-found_head : (e : ℕ × ℤ) (es : Entries) (item : ℕ) (v : ℤ) → e.0 ≡ item → e.1 ≡ v → found (e ∷ es) item ≡ Some v
+pub found_head : (e : ℕ × ℤ) (es : Entries) (item : ℕ) (v : ℤ) → e.0 ≡ item → e.1 ≡ v → found (e ∷ es) item ≡ Some v
 found_head e es item v is has = let t : nat_eq e.0 item ≡ true = grind (arith, is) in rw t (ap (λ x. Some x) has)
 
-found_other : (e : ℕ × ℤ) (es : Entries) (i : ℕ) → e.0 ≢ i → found (e ∷ es) i ≡ found es i
+pub found_other : (e : ℕ × ℤ) (es : Entries) (i : ℕ) → e.0 ≢ i → found (e ∷ es) i ≡ found es i
 found_other e es i ne = let t : nat_eq e.0 i ≡ false = grind (arith, ne) in rw t refl
 
 found_tail : (e : ℕ × ℤ) (es fs : Entries) (i : ℕ) (b : Bool) → nat_eq e.0 i ≡ b → found es i ≡ found fs i → found (e ∷ es) i ≡ found (e ∷ fs) i

@@ -3,7 +3,12 @@ use Rattle.std.proofs.lemmas.Int.{to_z-of_z}
 use Rattle.std.specs.Prelude.{set, insert, slice_get, slice_set}
 use Rattle.access_sets.specs.Entries.{map_of, place_of, AreAscending}
 use Rattle.access_sets.proofs.Maps.{length_map, set_put, insert_put, put_is, place_within, inserted, some_below}
+use Rattle.access_sets.proofs.Places.{ascending_within}
 use Rattle.access_sets.proofs.write_set.WriteSet.set.Goals as goal
+
+pub place_in-place-requires : goal.place_in-place-requires
+place_in-place-requires c =
+    record { ascending = subst (AreAscending 0 1024) (sym c.deref.ensures.value) (ascending_within 0 _ 1024 _ c.self.invariant.small c.self.invariant.ascending) }
 
 pub invariant_of-self : goal.invariant_of-self
 invariant_of-self c =
