@@ -53,6 +53,15 @@ impl Lanes {
         ensures { IfOk result (λ l. l ≡ record { most = k; lanes = lanes; items = items; seats = [] }) }
     {
         let bank = Bank::open(alloc, items, k, lanes)?;
+        Lanes::over(alloc, bank)
+    }
+
+    /// Room for as many started transactions as the bank has lanes; nobody is started. Where memory runs out, `AllocError`, and
+    /// the bank's own goes back.
+    pub fn over(alloc: Global, bank: Bank) -> Result<Lanes, AllocError>
+        ensures { IfOk result (λ l. l ≡ record { most = bank.most; lanes = length bank.sides; items = bank.items; seats = [] }) }
+    {
+        let lanes = bank.lanes();
         let seats = Vec::with_capacity(alloc, lanes as usize)?;
         let free = all_lanes(alloc, lanes)?;
         Ok(Lanes { bank, seats, free })
