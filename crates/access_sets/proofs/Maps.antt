@@ -84,10 +84,6 @@ found_tail : (e : ℕ × ℤ) (es fs : Entries) (i : ℕ) (b : Bool) → nat_eq 
 found_tail e es fs i true t h = rw t refl
 found_tail e es fs i false t h = rw t h
 
-ascending_more : (from from' room : ℕ) (es : Entries) → from' ≤ from → AreAscending from room es → AreAscending from' room es
-ascending_more from from' room [] le h = tt
-ascending_more from from' room (e ∷ es) le h = (omega (arith, h.0), h.1, h.2)
-
 -- what setting the place of an item makes of the entries
 pub record Put (from room item : ℕ) (v : ℤ) (es fs : Entries) : Type 0 where
   pub ascending : AreAscending from room fs
@@ -205,14 +201,8 @@ pub record Rest (es : Entries) (i room : ℕ) (old new : Tables) : Type 0 where
   pub ascending : AreAscending from room (drop i es)
   pub left : over (map_of 0 room es) old ≡ over (map_of 0 room (drop i es)) new
 
-pub rest_all : (es : Entries) (room : ℕ) (old : Tables) → AreAscending 0 room es → length old ≡ room → Rest es 0 room old old
-rest_all es room old h long = record { long = long; from = 0; ascending = h; left = refl }
-
 drop_is : (es : Entries) (i : ℕ) (e : ℕ × ℤ) → i < length es → e ≡ get_or es i e → drop i es ≡ e ∷ drop (i + 1) es
 drop_is es i e lt is = rw (add-one, drop-cons es i e lt, ← is) refl
-
-pub rest_below : (es : Entries) (i room : ℕ) (old new : Tables) (e : ℕ × ℤ) → Rest es i room old new → i < length es → e ≡ get_or es i e → e.0 < room
-rest_below es i room old new e r lt is = (subst (AreAscending r.from room) (drop_is es i e lt is) r.ascending).1
 
 pub rest_more : (es : Entries) (i room : ℕ) (old new : Tables) (e : ℕ × ℤ) → Rest es i room old new → i < length es → e ≡ get_or es i e → Rest es (i + 1) room old (set new e.0 e.1)
 rest_more es i room old new e r lt is =

@@ -137,10 +137,6 @@ kept_all b ws (x ∷ rs) h = go (is_changed ws x) refl h (kept_all b ws rs)
     go true e h rest = (λ lt. let le : b ≤ x.0 = h.0 in absurd (omega arith), rest h.1)
     go false e h rest = (λ lt. not_changed (own ws x.1) e, rest h)
 
-no_positions : {X Y : Type 0} (g : X → Y) (xs : List X) → map g xs ≡ [] → xs ≡ []
-no_positions g [] h = refl
-no_positions g (x ∷ xs) h = cc
-
 -- what a survivor has read is not among the writes
 pub survives-reads : (rs : List Read) (ws : Writes) (q : ℕ) → survives (point rs ws) q ≡ true → AllByRecursion (λ (x : Read). x.0 < q → own ws x.1 ≡ None) rs
 survives-reads rs ws q h = go (point rs ws) refl h

@@ -7,11 +7,7 @@ use Rattle.txn_runs.specs.declared.program.Op.TheVariants.{Add}
 use Rattle.txn_runs.specs.declared.program.Operand.TheVariants.{Reg}
 use Rattle.txn_runs.specs.declared.program.Stmt as statement
 use Rattle.txn_runs.specs.declared.program.Stmt.TheVariants.{Calc, Move, Emit, Fail}
-use Rattle.forest_model.specs.Programs.{num, get, set_to, add, nothing, reader, writer, late_reader, two_reader, late_two_reader, three_reader, own_reader, twice_reader, failing_writer, crosses}
-
-pub nothing_steps : steps_max nothing ≡ 0
-unfolding nothing
-nothing_steps = refl
+use Rattle.forest_model.specs.Programs.{num, get, set_to, add, reader, writer, late_reader, two_reader, late_two_reader, three_reader, own_reader, twice_reader, failing_writer, crosses}
 
 pub reader_steps : steps_max reader ≡ 2
 unfolding reader statement.out-Stmt Carrier.out

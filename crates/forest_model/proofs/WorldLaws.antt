@@ -237,6 +237,3 @@ opened-fit d k lanes = record {
   };
   held = tt;
 }
-
-pub schedules-sound : (d : Tables) (k lanes : ℕ) (events : List Event) → IsSound (all_happen events (opened d k lanes)).forest
-schedules-sound d k lanes events = (all_happen-fit events (opened d k lanes) (opened-fit d k lanes)).sound

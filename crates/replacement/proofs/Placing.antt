@@ -1,7 +1,7 @@
 -- An element put at its place in an ordered list, by index, and what is kept of a list that is cut.
 use Rattle.std.proofs.Common.{◌≡◌, ℕ, zero, suc, ◌+◌, ◌-◌, ◌<◌, ◌≤◌, Bool, true, false, List, [], ◌∷◌, ◌++◌, length, insert, take, drop, get_or, refl, ap, sym, ◌∙◌, arith, append_assoc}
 use Rattle.std.proofs.lemmas.Bool.{cond_both}
-use Rattle.std.proofs.lemmas.List.{drop_more, take_more, take_all, drop_all, take-take, take_at, length-append, length-take, length-drop}
+use Rattle.std.proofs.lemmas.List.{drop_more, take_more, take_all, drop_all, take-take, length-append, length-take, length-drop}
 use Rattle.std.proofs.lemmas.List.Sums.{fold_more}
 use Rattle.forest_model.specs.Choose.{put_in_order, in_order}
 
@@ -64,10 +64,3 @@ insert_full (suc n) i x xs e lt =
 
 pub insert_room : {X : Type 0} (room i : ℕ) (x : X) (xs : List X) → length xs < room → insert xs i x ≡ take room (insert xs i x)
 insert_room room i x xs lt = sym (take_all room (insert xs i x) (omega (arith, length-insert-le i x xs)))
-
--- what would come past the room is not kept
-pub insert_past : {X : Type 0} (room i : ℕ) (x : X) (xs : List X) → i ≤ length xs → length xs ≤ room → room ≤ i → xs ≡ take room (insert xs i x)
-insert_past room i x xs le fits past =
-    let all : take i xs ≡ xs = take_all i xs (omega arith) in
-    let n : length (take i xs) ≡ room = rw all (omega arith) in
-    sym (take_at (take i xs) (x ∷ drop i xs) room n ∙ all)

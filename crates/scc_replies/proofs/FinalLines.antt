@@ -1,8 +1,8 @@
 -- The final lines, one table after another.
-use Rattle.std.proofs.Common.{◌≡◌, ℕ, suc, ◌+◌, ◌≤◌, ◌++◌, List, [], ◌∷◌, length, take, drop, refl, ap, sym, ◌∙◌, slice_range, Option, None, Some, add-one, arith}
+use Rattle.std.proofs.Common.{◌≡◌, ℕ, suc, ◌+◌, ◌≤◌, ◌++◌, List, [], ◌∷◌, take, drop, refl, ap, sym, ◌∙◌, slice_range, Option, None, Some, add-one, arith}
 use Rattle.std.specs.Option.{option_map}
 use Rattle.txn_runs.specs.declared.program.TableRef.{TableRef}
-use Rattle.std.proofs.Math.Seq.{drop-cons, drop-length, take-suc}
+use Rattle.std.proofs.Math.Seq.{drop-cons, take-suc}
 use Rattle.std.specs.List.{slice_get}
 use Rattle.std.proofs.lemmas.Option.{slice_get_within, get_or_from_slice_get}
 use Rattle.std.proofs.lemmas.List.Sums.{sum_by-append, sum_by-take-le}
@@ -50,10 +50,6 @@ at-entry tables names n table name (Some entry) found is_table is_name =
 pub finals-at : (tables : Tables) (names : List Named) (n : ℕ) (table : TableRef) (name : List ℕ) → table_at names n ≡ Some table → option_map (λ (t : Named). t.0) (slice_get names n) ≡ Some name →
     finals_from tables names n ≡ final_line name (slice_range tables table.base (table.base + table.size)) ++ finals_from tables names (n + 1)
 finals-at tables names n table name is_table is_name = at-entry tables names n table name (slice_get names n) refl is_table is_name
-
--- behind the last table is none
-pub finals-end : (tables : Tables) (names : List Named) → finals_from tables names (length names) ≡ []
-finals-end tables names = ap (final_lines tables (items_of (take (length names) names))) (drop-length names)
 
 within-entry : (names : List Named) (n : ℕ) (table : TableRef) (found : Option Named) → slice_get names n ≡ found →
     option_map (λ (t : Named). record { number = n; base = items_of (take n names); size = t.1 }) found ≡ Some table → table.base + table.size ≤ items_of names

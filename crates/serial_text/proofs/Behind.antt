@@ -209,7 +209,3 @@ guard-third t guard = go (decimal guard) (decimal-digits guard) refl
 
 pub third-other : (byte : ℕ) (x : List ℕ) → byte ≢ 111 → HasThird byte x → third x ≢ 111
 third-other byte x other h e = other (sym (third-is byte x h) ∙ e)
-
-pub shown-letters : (t : ℕ) (rest : List ℕ) → three (codes "shadow " ++ rest) ≡ true
-unfolding three letters head tail
-shown-letters t rest = refl

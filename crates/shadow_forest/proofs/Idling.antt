@@ -11,7 +11,7 @@ use Rattle.forest_model.specs.Forest.{Forest, Started}
 use Rattle.forest_model.specs.Pick.{pick, pick_of}
 use Rattle.forest_model.specs.Sound.{IsSound}
 use Rattle.forest_model.specs.Events.{Refusal, step}
-use Rattle.forest_model.specs.Drain.{step_row, counted, run_from, run_idle, first_ended}
+use Rattle.forest_model.specs.Drain.{counted, run_from, run_idle, first_ended}
 use Rattle.forest_model.specs.Choose.{first_by}
 use Rattle.forest_model.proofs.Lists.{all-weaken, all-map}
 use Rattle.forest_model.proofs.PickLaws.{pick-accepted}
@@ -38,9 +38,6 @@ view-is v w f numbers resumed starts =
 
 pub idle-none : (f : Forest) → IsSound f → pick f ≡ None → run_idle f ≡ (0, f)
 idle-none f h e = run_idle-unrolled f h ∙ ap (λ o. run_from o f run_idle) e
-
-pub idle-some : (f : Forest) (row : Row) → IsSound f → pick f ≡ Some row → run_idle f ≡ counted (run_idle (step_row f row))
-idle-some f row h e = run_idle-unrolled f h ∙ ap (λ o. run_from o f run_idle) e
 
 pub accepted-ticks : (o : Result (ℕ × Forest) Refusal) → is_ok o ≡ true → step_ticks o ≡ 1
 accepted-ticks (Ok answer) e = refl

@@ -55,13 +55,6 @@ slice_get-at_place_same n f [] x is = cc
 slice_get-at_place_same zero f (y ∷ ys) x is = let same : y ≡ x = cc in rw same refl
 slice_get-at_place_same (suc n) f (y ∷ ys) x is = slice_get-at_place_same n f ys x is
 
-pub slice_get-at_place_other : {X : Type 0} (n m : ℕ) (f : X → X) (xs : List X) → (m ≡ n → ⊥) → slice_get (at_place n f xs) m ≡ slice_get xs m
-slice_get-at_place_other n m f [] ne = refl
-slice_get-at_place_other zero zero f (y ∷ ys) ne = absurd (ne refl)
-slice_get-at_place_other zero (suc m) f (y ∷ ys) ne = refl
-slice_get-at_place_other (suc n) zero f (y ∷ ys) ne = refl
-slice_get-at_place_other (suc n) (suc m) f (y ∷ ys) ne = slice_get-at_place_other n m f ys (λ e. ne (ap suc e))
-
 -- two changes that agree on the element that is there
 pub at_place-agree : {X : Type 0} (n : ℕ) (f g : X → X) (xs : List X) (x : X) → slice_get xs n ≡ Some x → f x ≡ g x → at_place n f xs ≡ at_place n g xs
 at_place-agree n f g [] x is e = refl
@@ -74,28 +67,6 @@ at_place-still n f [] x is e = refl
 at_place-still zero f (y ∷ ys) x is e = let same : y ≡ x = cc in rw same (ap (λ z. z ∷ ys) e)
 at_place-still (suc n) f (y ∷ ys) x is e = ap (λ zs. y ∷ zs) (at_place-still n f ys x is e)
 
-pub at_place-past : {X : Type 0} (n : ℕ) (f : X → X) (xs : List X) → length xs ≤ n → at_place n f xs ≡ xs
-at_place-past n f [] le = refl
-at_place-past zero f (x ∷ xs) le = absurd (omega arith)
-at_place-past (suc n) f (x ∷ xs) le = ap (λ zs. x ∷ zs) (at_place-past n f xs (omega arith))
-
-pub at_place-append : {X : Type 0} (f : X → X) (ys : List X) (x : X) (zs : List X) → at_place (length ys) f (ys ++ x ∷ zs) ≡ ys ++ f x ∷ zs
-at_place-append f [] x zs = refl
-at_place-append f (y ∷ ys) x zs = ap (λ ws. y ∷ ws) (at_place-append f ys x zs)
-
--- what a view makes of a change
-pub map-at_place : {X Y : Type 0} (g : X → Y) (n : ℕ) (f : X → X) (h : Y → Y) (xs : List X) (x : X) → slice_get xs n ≡ Some x → g (f x) ≡ h (g x)
-    → map g (at_place n f xs) ≡ at_place n h (map g xs)
-map-at_place g n f h [] x is e = refl
-map-at_place g zero f h (y ∷ ys) x is e = let same : y ≡ x = cc in rw same (ap (λ z. z ∷ map g ys) e)
-map-at_place g (suc n) f h (y ∷ ys) x is e = ap (λ zs. g y ∷ zs) (map-at_place g n f h ys x is e)
-
--- what holds of each, where it holds of the changed one
-pub all-at_place : {X : Type 0} (P : X → Type 0) (n : ℕ) (f : X → X) (xs : List X) → ((x : X) → P x → P (f x)) → AllByRecursion P xs → AllByRecursion P (at_place n f xs)
-all-at_place P n f [] keeps all = tt
-all-at_place P zero f (x ∷ xs) keeps all = (keeps x all.0, all.1)
-all-at_place P (suc n) f (x ∷ xs) keeps all = (all.0, all-at_place P n f xs keeps all.1)
-
 -- Each element changed, from the left.
 
 -- the first i are changed
@@ -107,11 +78,6 @@ so_far-all f zero [] le = refl
 so_far-all f (suc i) [] le = refl
 so_far-all f zero (x ∷ xs) le = absurd (omega arith)
 so_far-all f (suc i) (x ∷ xs) le = ap (λ zs. f x ∷ zs) (so_far-all f i xs (omega arith))
-
-pub length-so_far : {X : Type 0} (f : X → X) (i : ℕ) (xs : List X) → length (so_far f i xs) ≡ length xs
-length-so_far f zero xs = refl
-length-so_far f (suc i) [] = refl
-length-so_far f (suc i) (x ∷ xs) = ap suc (length-so_far f i xs)
 
 -- the element at the place that is next is as it was
 pub slice_get-so_far : {X : Type 0} (f : X → X) (i : ℕ) (xs : List X) → slice_get (so_far f i xs) i ≡ slice_get xs i

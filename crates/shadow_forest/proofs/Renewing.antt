@@ -106,9 +106,6 @@ none_wait (w ∷ ws) h = absurd (omega (arith, h))
 none_wanted : (k : ℕ) (next : Option ℕ) (seats : List Seat) (r : Seat) → k ≡ 1 → wanted_among k next seats r ≡ []
 none_wanted k next seats r one = ap (wanted_of (filter_map (conflict_between next r) seats)) one
 
-pub one-wanted : (k : ℕ) (next : Option ℕ) (seats : List Seat) (r : Seat) → k ≡ 1 → [] ≡ wanted_among k next seats r
-one-wanted k next seats r one = sym (none_wanted k next seats r one)
-
 pub one-renewed : (s : Seated) (txns : List Txn) (t item : ℕ) → AreSeats s → s.most ≡ 1 → s ≡ with_seats s (readers_renewed s.most s.items txns t item s.seats)
 one-renewed s txns t item h one = ap (with_seats s) (sym (all s.seats h.each))
   where

@@ -161,10 +161,6 @@ last_open items front last (f ∷ fs) is (front', last', is', inner, opens) =
     let same = snoc_same front' front last' last (sym is' ∙ is) in
     (f, fs, refl, subst (λ v. IsOpen (length fs) v f) same.1 inner, subst (λ v. AreOpen v fs) same.0 opens)
 
-pub none_open : (items : List Open) (frames : List Frame) → items ≡ [] → AreOpen items frames → frames ≡ []
-none_open items [] is h = refl
-none_open items (f ∷ fs) is (front, last, parts, inner, opens) = absurd (not_snoc front last (sym parts ∙ is))
-
 -- what begins an item of a machine
 abbrev Begins : Machine → Machine → Type 0
 Begins n last = (b : Blocks) → HasBlocks n b → IsMachine last (begun b)

@@ -148,12 +148,6 @@ is_choice_of test a b x y z is fits h k =
       emits = omega (arith, h.emits, k.emits, one emits_row plus, ap emits_max is);
     }
 
-pub is_if : (test : Test) (a : Measure) (x : Text) → IsMeasure a x → IsMeasure (of_choice test a none) (If test x Nothing)
-is_if test a x h = is_choice_of test a none x Nothing (If test x Nothing) refl (and_true (test_fits test && literals_fit x) ∙ ap (λ v. test_fits test && v) (sym (and_true (literals_fit x)))) h is_none
-
-pub is_if_else : (test : Test) (a b : Measure) (x y : Text) → IsMeasure a x → IsMeasure b y → IsMeasure (of_choice test a b) (IfElse test x y Nothing)
-is_if_else test a b x y h k = is_choice_of test a b x y (IfElse test x y Nothing) refl (and_true (test_fits test && (literals_fit x && literals_fit y))) h k
-
 pub is_turns : (n : ℕ) (b : Measure) (x : Text) → IsMeasure b x → IsMeasure (of_turns n b) (Loop n x Nothing)
 is_turns n b x h =
     let one : (row : Row) (join : ℕ → ℕ → ℕ) → of_stmt row join (s.Loop n (record { stmts = meant x })) ≡ row (Stmt-F.Loop n (of_list row join (meant x))) =
