@@ -4,3 +4,4 @@ pub mod Parts
 pub mod Kept
 pub mod Ready
 pub mod Bench
+pub mod Listed

@@ -8,6 +8,7 @@ mod bench;
 mod committing;
 mod forest;
 mod giving;
+mod kept;
 mod picking;
 mod priority;
 mod send;
@@ -20,3 +21,4 @@ pub use answers::{
 pub use bench::{Bench, Given, Job};
 pub use forest::Forest;
 pub use forest_model::Did;
+pub use kept::Item;
