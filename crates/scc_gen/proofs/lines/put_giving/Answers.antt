@@ -1,0 +1,12 @@
+use Rattle.std.proofs.Common.{codes}
+use Rattle.scc_gen.specs.Generated.{part, giving}
+use Rattle.scc_gen.proofs.SoFar.{three}
+use Rattle.scc_gen.proofs.lines.put_giving.Goals as goal
+
+pub returns-clause-part : goal.returns-clause-part
+unfolding giving
+returns-clause-part c =
+    let t = c.args.transfer in
+    three c.args.out.now.items c.put_part.new.out.items c.put_part-2.new.out.items c.put_part-3.new.out.items
+    (part (codes " r2 = acct[") t.to (codes "];")) (part (codes " r3 = r2 + ") t.amount (codes ";")) (part (codes " acct[") t.to (codes "] = r3;"))
+    c.in_ok-put_part.ensures.part c.in_ok-put_part-2.ensures.part c.in_ok-put_part-3.ensures.part
