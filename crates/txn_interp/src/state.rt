@@ -1,4 +1,4 @@
-ghost use Rattle.std.specs.Prelude.{◌≡◌, ◌≢◌, ℕ, ◌+◌, ◌<◌, ◌≤◌, ◌^◌, ℤ, List, [], ◌∷◌, ◌++◌, nat_eq, slice_set, length, pos, None, IfOk, IsTrue, ◌↔◌, slice_index_or, if◌then◌else◌};
+ghost use Rattle.std.specs.Prelude.{◌≡◌, ◌≢◌, ℕ, ◌+◌, ◌<◌, ◌≤◌, ◌^◌, ℤ, false, List, [], ◌∷◌, ◌++◌, nat_eq, slice_set, length, pos, None, IfOk, IsTrue, ◌↔◌, slice_index_or, if◌then◌else◌};
 ghost use Rattle.txn_runs.specs.declared.outcome.End.TheVariants.{Going, Failed};
 ghost use Rattle.txn_interp.specs.State.{is_finish};
 
@@ -39,8 +39,11 @@ impl State {
     ghost use Rattle.std.specs.Prelude.{slice_get};
     ghost use Rattle.txn_interp.specs.State.{is_last, fresh_state, Held, Carries, Runs, RunsOver, IsRun, Tracks, IsSafe};
     ghost use Rattle.txn_runs.specs.Reads.{AreBefore};
-    ghost use Rattle.txn_interp.specs.Advance.{operand, moved, settle, put_in, fetch_in, turn_by, advance};
-    ghost use Rattle.txn_runs.specs.Run.{Tables, register, item_at, own, logged};
+    ghost use Rattle.txn_interp.specs.Advance.{operand, moved, settle, put_in, turn_by, advance, known_of};
+    ghost use Rattle.txn_interp.specs.Kind.{held_kind, MakesLocal};
+    ghost use Rattle.txn_runs.specs.declared.kind.Kind.TheVariants.{Local, TableRead, Write};
+    ghost use Rattle.txn_code.specs.declared.node.Act.TheVariants.{Read as ReadTable, Write as WriteTable};
+    ghost use Rattle.txn_runs.specs.Run.{Tables};
     ghost use Rattle.txn_runs.specs.Value.{calc, holds};
     ghost use Rattle.txn_runs.specs.Bounds.{after_register};
 
@@ -139,6 +142,7 @@ impl State {
         self.end = end;
     }
 
+    #[inline(always)]
     fn calculate(&mut self, to: u8, left: Operand, op: Op, right: Operand)
         requires to { to < 16 }
         requires left { after_register left ≤ 16 }
@@ -190,52 +194,6 @@ impl State {
         }
     }
 
-    fn write(&mut self, table: TableRef, at: Operand, from: Operand)
-        requires at { after_register at ≤ 16 }
-        requires from { after_register from ≤ 16 }
-        requires within { table.base + table.size ≤ self.old.log.room }
-        requires small { table.base + table.size < 2 ^ 32 }
-        ensures { self.new ≡ settle (item_at table (operand self.old at)) self.old (λ item. record self.old { writes = slice_set self.old.writes item (Some (operand self.old from)) }) }
-    {
-        let value = self.operand(from);
-        match item_at(table, self.operand(at)) {
-            Ok(item) => self.writes.set(item as u32, value),
-            Err(kind) => self.fail(End::Fault { kind }),
-        }
-    }
-
-    fn read(&mut self, to: u8, table: TableRef, at: Operand, position: u32, value: i64)
-        requires to { to < 16 }
-        requires at { after_register at ≤ 16 }
-        requires within { table.base + table.size ≤ self.old.log.room }
-        requires small { table.base + table.size < 2 ^ 32 }
-        requires before { AreBefore position self.old.log.reads }
-        ensures { self.new ≡ settle (item_at table (operand self.old at)) self.old (λ item. fetch_in (own self.old.writes item) (logged self.old.log.reads item) value position to item self.old) }
-    {
-        match item_at(table, self.operand(at)) {
-            Ok(item) => self.fetch(to, item as u32, position, value),
-            Err(kind) => self.fail(End::Fault { kind }),
-        }
-    }
-
-    fn fetch(&mut self, to: u8, item: u32, position: u32, value: i64)
-        requires to { to < 16 }
-        requires within { item < self.old.log.room }
-        requires before { AreBefore position self.old.log.reads }
-        ensures { self.new ≡ fetch_in (own self.old.writes item) (logged self.old.log.reads item) value position to item self.old }
-    {
-        match self.writes.get(item) {
-            Some(own) => self.put(to, own),
-            None => match self.reads.get(item) {
-                Some(logged) => self.put(to, logged),
-                None => {
-                    self.reads.note(position, item, value);
-                    self.put(to, value);
-                }
-            },
-        }
-    }
-
     fn turn(&mut self, count: u32, depth: u8, next: u32, other: u32)
         requires position { self.old.position < 100000 }
         requires depth { depth < 8 }
@@ -256,15 +214,66 @@ impl State {
         }
     }
 
-    /// A step of this node, which finds `value` where it reads the tables.
-    fn apply(&mut self, node: Node, value: i64)
-        requires safe { IsSafe node.act self.old }
-        requires position { self.old.position < 100000 }
-        requires before { AreBefore self.old.position self.old.log.reads }
-        requires small { self.old.log.room ≤ 1024 }
-        ensures { self.new ≡ advance node.act node.next node.other value self.old }
+    // What the run has written or read of an item.
+    fn known(&self, item: u32) -> Option<i64>
+        ensures { result ≡ known_of self.now item }
     {
-        let position = self.position;
+        match self.writes.get(item) {
+            Some(own) => Some(own),
+            None => self.reads.get(item),
+        }
+    }
+
+    // Makes the step of a read where it is Local: of what the run knows, or a fault. Tells whether it was.
+    fn read_known(&mut self, to: u8, table: TableRef, at: Operand, next: u32) -> bool
+        requires to { to < 16 }
+        requires at { after_register at ≤ 16 }
+        requires position { self.old.position < 100000 }
+        requires within { table.base + table.size ≤ self.old.log.room }
+        requires small { table.base + table.size < 2 ^ 32 }
+        ensures { MakesLocal (ReadTable to table at) next next self.old self.new result }
+    {
+        match item_at(table, self.operand(at)) {
+            Ok(item) => match self.known(item as u32) {
+                Some(value) => {
+                    self.move_to(next);
+                    self.put(to, value)
+                }
+                None => return false,
+            },
+            Err(kind) => {
+                self.move_to(next);
+                self.fail(End::Fault { kind })
+            }
+        }
+        true
+    }
+
+    // Makes the step of a write where it is Local, being a fault. Tells whether it was.
+    fn write_nowhere(&mut self, table: TableRef, at: Operand, from: Operand, next: u32) -> bool
+        requires at { after_register at ≤ 16 }
+        requires position { self.old.position < 100000 }
+        requires small { table.base + table.size < 2 ^ 32 }
+        ensures { MakesLocal (WriteTable table at from) next next self.old self.new result }
+    {
+        match item_at(table, self.operand(at)) {
+            Ok(_) => return false,
+            Err(kind) => {
+                self.move_to(next);
+                self.fail(End::Fault { kind })
+            }
+        }
+        true
+    }
+
+    // Makes the step of this node where it is Local, and tells whether it was.
+    #[inline(always)]
+    fn apply(&mut self, node: &Node) -> bool
+        requires safe { IsSafe node.now.act self.old }
+        requires position { self.old.position < 100000 }
+        requires small { self.old.log.room ≤ 1024 }
+        ensures { MakesLocal node.now.act node.now.next node.now.other self.old self.new result }
+    {
         match node.act {
             Act::Calc {
                 to,
@@ -279,13 +288,9 @@ impl State {
                 self.move_to(node.next);
                 self.assign(to, from)
             }
-            Act::Read { to, table, at } => {
-                self.move_to(node.next);
-                self.read(to, table, at, position, value)
-            }
+            Act::Read { to, table, at } => return self.read_known(to, table, at, node.next),
             Act::Write { table, at, from } => {
-                self.move_to(node.next);
-                self.write(table, at, from)
+                return self.write_nowhere(table, at, from, node.next);
             }
             Act::Test { left, cmp, right } => self.test(left, cmp, right, node.next, node.other),
             Act::Turn { count, depth } => self.turn(count, depth, node.next, node.other),
@@ -297,28 +302,73 @@ impl State {
                 self.move_to(node.next);
                 self.fail_with(code)
             }
-            Act::End => {}
+            Act::End => return false,
+        }
+        true
+    }
+
+    // The step of this node, which reads an item of the tables, where it finds `value`.
+    fn read(&mut self, node: &Node, value: i64)
+        requires safe { IsSafe node.now.act self.old }
+        requires kind { (item : ℕ) × (held_kind self.old node.now.act ≡ TableRead item) }
+        requires position { self.old.position < 100000 }
+        requires before { AreBefore self.old.position self.old.log.reads }
+        requires small { self.old.log.room ≤ 1024 }
+        ensures { self.new ≡ advance node.now.act node.now.next node.now.other value self.old }
+    {
+        let position = self.position;
+        match node.act {
+            Act::Read { to, table, at } => match item_at(table, self.operand(at)) {
+                Ok(item) => {
+                    self.reads.note(position, item as u32, value);
+                    self.move_to(node.next);
+                    self.put(to, value)
+                }
+                Err(_) => unreachable!(),
+            },
+            _ => unreachable!(),
         }
     }
 
-    ghost use Rattle.txn_runs.specs.declared.kind.Kind.TheVariants.{Ended, TableRead};
+    // The step of this node, which writes an item of the tables.
+    fn write(&mut self, node: &Node)
+        requires safe { IsSafe node.now.act self.old }
+        requires kind { (item : ℕ) × (value : ℤ) × (held_kind self.old node.now.act ≡ Write item value) }
+        requires position { self.old.position < 100000 }
+        requires small { self.old.log.room ≤ 1024 }
+        ensures { self.new ≡ advance node.now.act node.now.next node.now.other (pos 0) self.old }
+    {
+        match node.act {
+            Act::Write { table, at, from } => match item_at(table, self.operand(at)) {
+                Ok(item) => {
+                    let value = self.operand(from);
+                    self.move_to(node.next);
+                    self.writes.set(item as u32, value)
+                }
+                Err(_) => unreachable!(),
+            },
+            _ => unreachable!(),
+        }
+    }
+
+    ghost use Rattle.txn_runs.specs.declared.kind.Kind.TheVariants.{Ended};
     ghost use Rattle.txn_runs.specs.Kind.{kind_of};
-    ghost use Rattle.txn_interp.specs.Kind.{held_kind, HasKind};
+    ghost use Rattle.txn_interp.specs.Kind.{HasKind};
     ghost use Rattle.txn_interp.specs.State.{IsFresh};
     ghost use Rattle.txn_code.specs.declared.node.Node.{Node};
     ghost use Rattle.txn_runs.specs.Run.{after, stored};
     ghost use Rattle.txn_runs.specs.declared.program.Stmt.{Stmt};
 
-    fn kind(&self, act: Act) -> Kind
-        requires safe { IsSafe act self.now }
+    fn kind(&self, act: &Act) -> Kind
+        requires safe { IsSafe act.now self.now }
         requires small { self.now.log.room ≤ 1024 }
-        ensures { result ≡ held_kind self.now act }
+        ensures { result ≡ held_kind self.now act.now }
     {
-        match act {
+        match *act {
             Act::Read { table, at, .. } => match item_at(table, self.operand(at)) {
                 Ok(item) => {
                     let item = item as u32;
-                    if self.writes.get(item).is_some() || self.reads.get(item).is_some() {
+                    if self.known(item).is_some() {
                         Kind::Local
                     } else {
                         Kind::TableRead { item }
@@ -345,7 +395,7 @@ impl State {
         ensures tracks { (body : List Stmt) (tables : Tables) → Tracks code.now.nodes body tables self.now → result ≡ has_ended (after body tables self.now.position) }
     {
         match self.end {
-            End::Going => is_end(code.node(self.node).act),
+            End::Going => is_end(&code.node(self.node).act),
             _ => true,
         }
     }
@@ -359,37 +409,30 @@ impl State {
         ensures write_within { (item : ℕ) (value : ℤ) → result ≡ Write item value → item < self.now.log.room }
     {
         match self.end {
-            End::Going => self.kind(code.node(self.node).act),
+            End::Going => self.kind(&code.node(self.node).act),
             _ => Kind::Ended,
         }
     }
 
-    fn step(&mut self, code: &Code, value: i64)
-        requires runs { Runs code.now.nodes self.old }
-        requires goes { (kind : Kind) × HasKind code.now.nodes self.old kind × (kind ≢ Ended) }
-        ensures position { self.new.position ≡ self.old.position + 1 }
-        ensures same { (body : List Stmt) (tables : Tables) → ((item : ℕ) → HasKind code.now.nodes self.old (TableRead item) → stored tables item ≡ value) → RunsOver code.now.nodes body tables self.old → RunsOver code.now.nodes body tables self.new }
-    {
-        self.advance(code, value);
-        self.done = self.at_end(code);
-    }
-
-    fn advance(&mut self, code: &Code, value: i64)
-        requires runs { Runs code.now.nodes self.old }
-        requires goes { (kind : Kind) × HasKind code.now.nodes self.old kind × (kind ≢ Ended) }
-        ensures position { self.new.position ≡ self.old.position + 1 }
-        ensures within { self.new.node < length code.now.nodes }
-        ensures same { (body : List Stmt) (tables : Tables) → ((item : ℕ) → HasKind code.now.nodes self.old (TableRead item) → stored tables item ≡ value) → RunsOver code.now.nodes body tables self.old → Tracks code.now.nodes body tables self.new }
-    {
-        let node = code.node(self.node);
-        self.apply(node, value);
-    }
-
     ghost use Rattle.txn_runs.specs.Serial.{has_ended, outcome_of};
     ghost use Rattle.txn_interp.specs.State.{Advances, AdvancesWhere};
-    ghost use Rattle.txn_runs.specs.declared.kind.Kind.TheVariants.{Local, Write};
+    ghost use Rattle.txn_interp.specs.Kind.{StepsOn};
     ghost use Rattle.txn_runs.specs.Bounds.{IsProgram};
     ghost use Rattle.txn_code.specs.Nodes.{nodes_of};
+
+    // Makes the next step where it is Local, and tells whether it was. The run has not ended.
+    #[inline(always)]
+    fn step_on(&mut self, code: &Code) -> bool
+        requires runs { Runs code.now.nodes self.old }
+        requires goes { self.old.done ≡ false }
+        ensures { StepsOn code.now.nodes self.old self.new result }
+    {
+        let local = self.apply(code.node(self.node));
+        if local {
+            self.done = self.at_end(code);
+        }
+        local
+    }
 
     /// Makes a step that is Local. The code is that of the run's program.
     pub fn step_local<L: Ledger>(&mut self, code: &Code, steps: &mut Steps<L>)
@@ -402,7 +445,7 @@ impl State {
         ensures tick { steps.new ≡ steps.old + 1 }
     {
         steps.tick();
-        self.step(code, 0);
+        let _made = self.step_on(code);
     }
 
     /// Makes the read of an item of the tables, which have this value there. The code is that of the run's program.
@@ -416,7 +459,8 @@ impl State {
         ensures tick { steps.new ≡ steps.old + 1 }
     {
         steps.tick();
-        self.step(code, value);
+        self.read(code.node(self.node), value);
+        self.done = self.at_end(code);
     }
 
     /// Makes a write. The code is that of the run's program.
@@ -430,7 +474,8 @@ impl State {
         ensures tick { steps.new ≡ steps.old + 1 }
     {
         steps.tick();
-        self.step(code, 0);
+        self.write(code.node(self.node));
+        self.done = self.at_end(code);
     }
 
     /// Becomes the state before the first step of the code's program, which fits the room. The room stays.
@@ -490,11 +535,11 @@ impl State {
         ensures ticks { steps.new ≡ steps.old + result }
     {
         let mut made = 0;
-        while made < most {
-            match self.next_kind(code) {
-                Kind::Local => self.step_local(code, steps),
-                _ => return made,
+        while made < most && !self.done {
+            if !self.step_on(code) {
+                return made;
             }
+            steps.tick();
             made += 1;
         }
         made
@@ -525,8 +570,8 @@ impl State {
     }
 }
 
-fn is_end(act: Act) -> bool
-    ensures { result ≡ is_finish act }
+fn is_end(act: &Act) -> bool
+    ensures { result ≡ is_finish act.now }
 {
     matches!(act, Act::End)
 }
