@@ -1,4 +1,4 @@
-ghost use Rattle.std.specs.Prelude.{◌≡◌, ◌≢◌, ℕ, ◌+◌, ◌<◌, ◌≤◌, ◌^◌, ℤ, false, List, [], ◌∷◌, ◌++◌, nat_eq, slice_set, length, pos, None, IfOk, IsTrue, ◌↔◌, slice_index_or, if◌then◌else◌};
+ghost use Rattle.std.specs.Prelude.{◌≡◌, ◌≢◌, ℕ, ◌+◌, ◌<◌, ◌≤◌, ◌^◌, ℤ, true, false, List, [], ◌∷◌, ◌++◌, nat_eq, slice_set, length, pos, None, IfOk, IsTrue, ◌↔◌, slice_index_or, if◌then◌else◌};
 ghost use Rattle.txn_runs.specs.declared.outcome.End.TheVariants.{Going, Failed};
 ghost use Rattle.txn_interp.specs.State.{is_finish};
 
@@ -122,7 +122,7 @@ impl State {
     }
 
     fn move_to(&mut self, next: u32)
-        requires { self.old.position < 100000 }
+        requires { self.old.position ≤ 100000 }
         ensures { self.new ≡ moved next self.old }
     {
         self.position += 1;
@@ -182,7 +182,7 @@ impl State {
     }
 
     fn test(&mut self, left: Operand, cmp: Cmp, right: Operand, next: u32, other: u32)
-        requires position { self.old.position < 100000 }
+        requires position { self.old.position ≤ 100000 }
         requires left { after_register left ≤ 16 }
         requires right { after_register right ≤ 16 }
         ensures { self.new ≡ moved (if holds cmp (operand self.old left) (operand self.old right) then next else other) self.old }
@@ -195,7 +195,7 @@ impl State {
     }
 
     fn turn(&mut self, count: u32, depth: u8, next: u32, other: u32)
-        requires position { self.old.position < 100000 }
+        requires position { self.old.position ≤ 100000 }
         requires depth { depth < 8 }
         requires inside { depth ≤ length self.old.counters }
         requires near { length self.old.counters ≤ depth + 1 }
@@ -228,7 +228,7 @@ impl State {
     fn read_known(&mut self, to: u8, table: TableRef, at: Operand, next: u32) -> bool
         requires to { to < 16 }
         requires at { after_register at ≤ 16 }
-        requires position { self.old.position < 100000 }
+        requires position { self.old.position ≤ 100000 }
         requires within { table.base + table.size ≤ self.old.log.room }
         requires small { table.base + table.size < 2 ^ 32 }
         ensures { MakesLocal (ReadTable to table at) next next self.old self.new result }
@@ -252,7 +252,7 @@ impl State {
     // Makes the step of a write where it is Local, being a fault. Tells whether it was.
     fn write_nowhere(&mut self, table: TableRef, at: Operand, from: Operand, next: u32) -> bool
         requires at { after_register at ≤ 16 }
-        requires position { self.old.position < 100000 }
+        requires position { self.old.position ≤ 100000 }
         requires small { table.base + table.size < 2 ^ 32 }
         ensures { MakesLocal (WriteTable table at from) next next self.old self.new result }
     {
@@ -270,7 +270,7 @@ impl State {
     #[inline(always)]
     fn apply(&mut self, node: &Node) -> bool
         requires safe { IsSafe node.now.act self.old }
-        requires position { self.old.position < 100000 }
+        requires position { self.old.position ≤ 100000 }
         requires small { self.old.log.room ≤ 1024 }
         ensures { MakesLocal node.now.act node.now.next node.now.other self.old self.new result }
     {
@@ -416,12 +416,11 @@ impl State {
 
     ghost use Rattle.txn_runs.specs.Serial.{has_ended, outcome_of};
     ghost use Rattle.txn_interp.specs.State.{Advances, AdvancesWhere};
-    ghost use Rattle.txn_interp.specs.Kind.{StepsOn};
+    ghost use Rattle.txn_interp.specs.Kind.{StepsOn, RunsOn};
     ghost use Rattle.txn_runs.specs.Bounds.{IsProgram};
     ghost use Rattle.txn_code.specs.Nodes.{nodes_of};
 
     // Makes the next step where it is Local, and tells whether it was. The run has not ended.
-    #[inline(always)]
     fn step_on(&mut self, code: &Code) -> bool
         requires runs { Runs code.now.nodes self.old }
         requires goes { self.old.done ≡ false }
@@ -534,15 +533,39 @@ impl State {
         ensures writes { self.new.writes ≡ self.old.writes }
         ensures ticks { steps.new ≡ steps.old + result }
     {
+        if self.done {
+            return 0;
+        }
+        let made = self.run_on(code, most, steps);
+        self.done = self.at_end(code);
+        made
+    }
+
+    // Makes Local steps until the next one is not Local or so many are made, and answers their number. The run has not ended before
+    // them; whether it has afterwards is not told.
+    fn run_on<L: Ledger>(&mut self, code: &Code, most: u32, steps: &mut Steps<L>) -> u32
+        requires runs { Runs code.now.nodes self.old }
+        requires goes { self.old.done ≡ false }
+        ensures run { RunsOn code.now.nodes most self.old self.new result }
+        ensures ticks { steps.new ≡ steps.old + result }
+    {
         let mut made = 0;
-        while made < most && !self.done {
-            if !self.step_on(code) {
+        while made < most && self.goes() {
+            if !self.apply(code.node(self.node)) {
                 return made;
             }
             steps.tick();
             made += 1;
         }
         made
+    }
+
+    // Whether the run has neither failed nor faulted.
+    fn goes(&self) -> bool
+        ensures goes { IsTrue result → self.now.end ≡ Going }
+        ensures over { result ≡ false → self.now.end ≢ Going }
+    {
+        matches!(self.end, End::Going)
     }
 
     /// Whether the run has ended.

@@ -1,4 +1,4 @@
-use Rattle.std.proofs.Common.{◌≡◌, ◌<◌, pos, Some, length, sym, subst, ◌∙◌}
+use Rattle.std.proofs.Common.{arith, ◌≡◌, ◌<◌, pos, Some, length, sym, subst, ◌∙◌}
 use Rattle.std.specs.Prelude.{slice_get}
 use Rattle.txn_interp.specs.Kind.{HasKind, MakesLocal, StepsOn}
 use Rattle.txn_interp.proofs.Stepped.{HasStepped, HasMoved, here_safe, here_kind, undone_goes, undone_kind, has_stepped, told_moved, moves_local}
@@ -11,7 +11,7 @@ apply-local-requires-clause-safe c =
     here_safe c.args.code.now.nodes s _ c.requires.runs is c.node.ensures.shallow
 
 pub apply-local-requires-clause-position : goal.apply-local-requires-clause-position
-apply-local-requires-clause-position c = (undone_goes c.args.code.now.nodes c.args.self.now c.requires.runs c.requires.goes).position
+apply-local-requires-clause-position c = omega (arith, (undone_goes c.args.code.now.nodes c.args.self.now c.requires.runs c.requires.goes).position)
 
 pub at_end-self-inside-requires : goal.at_end-self-inside-requires
 at_end-self-inside-requires c =
