@@ -8,11 +8,8 @@ use Rattle.txn_syntax.specs.declared.place.Plain.{Plain}
 use Rattle.txn_syntax.specs.declared.place.Plain.TheVariants as p
 use Rattle.txn_syntax.specs.declared.place.Test.{Test}
 use Rattle.txn_syntax.specs.declared.place.Item.TheVariants as i
-use Rattle.txn_syntax.specs.declared.place.Slot.{Slot}
-use Rattle.txn_syntax.specs.declared.place.Slot.TheVariants.{Left, Right, ReadAt, WriteAt, WriteFrom, IfLeft, IfRight, Emit, Fail}
-use Rattle.txn_syntax.specs.declared.place.Place.TheVariants.{Start, Value, Wants}
 use Rattle.txn_syntax.specs.Grammar.{Text, Nothing, Simple, If, IfElse, Loop, operand, simple, opened_if, opened_loop, spelled, program}
-use Rattle.txn_syntax.specs.Places.{filled}
+use Rattle.txn_syntax.specs.Places.{Slot, Left, Right, ReadAt, WriteAt, WriteFrom, IfLeft, IfRight, Emit, Fail, Start, Value, Wants, filled}
 use Rattle.txn_syntax.specs.Reading.{joined, Yes, No, Turn, Frame, Blocks, settled, Progress, Before, Within, Behind, begun, closed, grown, reading}
 use Rattle.txn_syntax.proofs.SoFar.{joined_nothing, joined_assoc}
 

@@ -63,7 +63,7 @@ fits_by level m x is h =
     }
 
 -- what is kept stays small
-stays_small : (level : ℕ) (old new : Body) (kept : Bool) (text : Text) → (kept ≡ true → Fits level text × (new.stmts ≡ meant text)) → (kept ≡ false → new.stmts ≡ old.stmts) → IsSmall level old.stmts → IsSmall level new.stmts
+stays_small : (level : ℕ) (old new : Body) (kept : Bool) (text : Text) → (kept ≡ true → Fits level text × (new.stmts.items ≡ meant text)) → (kept ≡ false → new.stmts.items ≡ old.stmts.items) → IsSmall level old.stmts.items → IsSmall level new.stmts.items
 stays_small level old new true text keeps drops h =
     let is = keeps refl in
     subst (IsSmall level) (sym is.1) (record { statements = is.0.statements; deep = λ some. is.0.depth })
@@ -73,7 +73,7 @@ stays_small level old new false text keeps drops h = subst (IsSmall level) (sym 
 added : (level : ℕ) (old new : Body) (m : Measure) (stmt : Stmt) (x z : Text) → Adds level old new m stmt → IsBody level old x → IsMeasure m z → (Fits level z → meant z ≡ stmt ∷ []) → IsBody level new (joined x z)
 added level old new m stmt x z adds is measures one =
     let measure : IsMeasure new.measure (joined x z) = subst (λ n. IsMeasure n (joined x z)) (sym adds.measure) (is_then old.measure m x z is.measure measures) in
-    let stmts : Fits level (joined x z) → new.stmts ≡ meant (joined x z) = λ all.
+    let stmts : Fits level (joined x z) → new.stmts.items ≡ meant (joined x z) = λ all.
     adds.kept (kept_by level new.measure (joined x z) measure all) ∙ ap (λ xs. xs ++ stmt ∷ []) (is.stmts (fits_front level x z all)) ∙ ap (λ ys. meant x ++ ys) (sym (one (fits_back level x z all))) ∙ sym (meant_joined x z) in
     record {
       measure = measure;
@@ -86,35 +86,35 @@ added level old new m stmt x z adds is measures one =
 pub plain_added : (level : ℕ) (old new : Body) (plain : Plain) (x : Text) → Adds level old new (of_plain plain) (statement_of plain) → IsBody level old x → IsBody level new (joined x (Simple plain Nothing))
 plain_added level old new plain x adds is = added level old new (of_plain plain) (statement_of plain) x (Simple plain Nothing) adds is (is_plain plain) (λ all. refl)
 
-choice_added : (level : ℕ) (old new first second : Body) (test : Test) (x y t z : Text) → Adds level old new (of_choice test first.measure second.measure) (choice_of test first.stmts second.stmts) → IsBody level old t → IsBody (suc level) first x → IsBody (suc level) second y → meant z ≡ choice_of test (meant x) (meant y) ∷ [] → literals_fit z ≡ (test_fits test && (literals_fit x && literals_fit y)) → IsBody level new (joined t z)
+choice_added : (level : ℕ) (old new first second : Body) (test : Test) (x y t z : Text) → Adds level old new (of_choice test first.measure second.measure) (choice_of test first.stmts.items second.stmts.items) → IsBody level old t → IsBody (suc level) first x → IsBody (suc level) second y → meant z ≡ choice_of test (meant x) (meant y) ∷ [] → literals_fit z ≡ (test_fits test && (literals_fit x && literals_fit y)) → IsBody level new (joined t z)
 choice_added level old new first second test x y t z adds is is_x is_y means fits =
     let measures = is_choice_of test first.measure second.measure x y z means fits is_x.measure is_y.measure in
-    added level old new (of_choice test first.measure second.measure) (choice_of test first.stmts second.stmts) t z adds is measures
+    added level old new (of_choice test first.measure second.measure) (choice_of test first.stmts.items second.stmts.items) t z adds is measures
     (λ all.
     let lits : (test_fits test && (literals_fit x && literals_fit y)) ≡ true = sym fits ∙ all.literals in
     let both_fit : (literals_fit x && literals_fit y) ≡ true = (both_true (test_fits test) (literals_fit x && literals_fit y) lits).1 in
     let fits_x : Fits (suc level) x = record { literals = (both_true (literals_fit x) (literals_fit y) both_fit).0; counts = omega (arith, all.counts, measures.count, is_x.measure.count); statements = omega (arith, all.statements, measures.statements, is_x.measure.statements); depth = omega (arith, all.depth, measures.depth, is_x.measure.depth) } in
     let fits_y : Fits (suc level) y = record { literals = (both_true (literals_fit x) (literals_fit y) both_fit).1; counts = omega (arith, all.counts, measures.count, is_y.measure.count); statements = omega (arith, all.statements, measures.statements, is_y.measure.statements); depth = omega (arith, all.depth, measures.depth, is_y.measure.depth) } in
-    means ∙ ap (λ a. choice_of test a (meant y) ∷ []) (sym (is_x.stmts fits_x)) ∙ ap (λ b. choice_of test first.stmts b ∷ []) (sym (is_y.stmts fits_y)))
+    means ∙ ap (λ a. choice_of test a (meant y) ∷ []) (sym (is_x.stmts fits_x)) ∙ ap (λ b. choice_of test first.stmts.items b ∷ []) (sym (is_y.stmts fits_y)))
 
-pub new_body : (level : ℕ) (b : Body) → b.measure ≡ none → b.stmts ≡ [] → IsBody level b Nothing
+pub new_body : (level : ℕ) (b : Body) → b.measure ≡ none → b.stmts.items ≡ [] → IsBody level b Nothing
 new_body level b measure stmts = record { measure = subst (λ m. IsMeasure m Nothing) (sym measure) is_none; stmts = λ all. stmts; small = subst (IsSmall level) (sym stmts) (record { statements = omega arith; deep = λ some. absurd (omega (arith, some)) }) }
 
-pub if_added : (level : ℕ) (old new first second : Body) (test : Test) (x t : Text) → Adds level old new (of_choice test first.measure second.measure) (choice_of test first.stmts second.stmts) → IsBody level old t → IsBody (suc level) first x → IsBody (suc level) second Nothing → IsBody level new (joined t (If test x Nothing))
+pub if_added : (level : ℕ) (old new first second : Body) (test : Test) (x t : Text) → Adds level old new (of_choice test first.measure second.measure) (choice_of test first.stmts.items second.stmts.items) → IsBody level old t → IsBody (suc level) first x → IsBody (suc level) second Nothing → IsBody level new (joined t (If test x Nothing))
 if_added level old new first second test x t adds is is_x is_y = choice_added level old new first second test x Nothing t (If test x Nothing) adds is is_x is_y refl (and_true (test_fits test && literals_fit x) ∙ ap (λ v. test_fits test && v) (sym (and_true (literals_fit x))))
 
-pub if_else_added : (level : ℕ) (old new first second : Body) (test : Test) (x y t : Text) → Adds level old new (of_choice test first.measure second.measure) (choice_of test first.stmts second.stmts) → IsBody level old t → IsBody (suc level) first x → IsBody (suc level) second y → IsBody level new (joined t (IfElse test x y Nothing))
+pub if_else_added : (level : ℕ) (old new first second : Body) (test : Test) (x y t : Text) → Adds level old new (of_choice test first.measure second.measure) (choice_of test first.stmts.items second.stmts.items) → IsBody level old t → IsBody (suc level) first x → IsBody (suc level) second y → IsBody level new (joined t (IfElse test x y Nothing))
 if_else_added level old new first second test x y t adds is is_x is_y = choice_added level old new first second test x y t (IfElse test x y Nothing) adds is is_x is_y refl (and_true (test_fits test && (literals_fit x && literals_fit y)))
 
-pub turns_added : (level : ℕ) (old new body : Body) (n : ℕ) (x t : Text) → Adds level old new (of_turns n body.measure) (turns_of n body.stmts) → IsBody level old t → IsBody (suc level) body x → IsBody level new (joined t (Loop n x Nothing))
+pub turns_added : (level : ℕ) (old new body : Body) (n : ℕ) (x t : Text) → Adds level old new (of_turns n body.measure) (turns_of n body.stmts.items) → IsBody level old t → IsBody (suc level) body x → IsBody level new (joined t (Loop n x Nothing))
 turns_added level old new body n x t adds is is_x =
     let measures = is_turns n body.measure x is_x.measure in
-    added level old new (of_turns n body.measure) (turns_of n body.stmts) t (Loop n x Nothing) adds is measures
+    added level old new (of_turns n body.measure) (turns_of n body.stmts.items) t (Loop n x Nothing) adds is measures
     (λ all.
     let fits_x : Fits (suc level) x = record { literals = (both_true (literals_fit x) true all.literals).0; counts = omega (arith, all.counts, measures.count, is_x.measure.count); statements = omega (arith, all.statements, measures.statements, is_x.measure.statements); depth = omega (arith, all.depth, measures.depth, is_x.measure.depth) } in
     ap (λ a. turns_of n a ∷ []) (sym (is_x.stmts fits_x)))
 
-settled_choice : (level : ℕ) (old new first second : Body) (test : Test) (choice : Option (Test × Text)) (t : Text) → IsChoice level (Some (test, first)) choice → Adds level old new (of_choice test first.measure second.measure) (choice_of test first.stmts second.stmts) → IsBody level old t → IsBody (suc level) second Nothing → IsBody level new (settled_by choice t)
+settled_choice : (level : ℕ) (old new first second : Body) (test : Test) (choice : Option (Test × Text)) (t : Text) → IsChoice level (Some (test, first)) choice → Adds level old new (of_choice test first.measure second.measure) (choice_of test first.stmts.items second.stmts.items) → IsBody level old t → IsBody (suc level) second Nothing → IsBody level new (settled_by choice t)
 settled_choice level old new first second test None t h adds is is_y = absurd h
 settled_choice level old new first second test (Some (other, x)) t (same, is_x) adds is is_y =
     subst (λ v. IsBody level new (joined t (If v x Nothing))) same (if_added level old new first second test x t adds is is_x is_y)
@@ -127,11 +127,11 @@ opens_length opens [] h = ap length h
 opens_length opens (f ∷ fs) (front, last, parts, inner, more) = ap length parts ∙ length-snoc front last ∙ ap suc (opens_length front fs more)
 
 -- where an `if` waited for its `else`
-pub settles : (level : ℕ) (m n : Machine) (test : Test) (first second : Body) (b : Blocks) → level ≡ length m.opens.items → m.choice ≡ Some (test, first) → n.choice ≡ None → n.opens ≡ m.opens → Adds level m.current n.current (of_choice test first.measure second.measure) (choice_of test first.stmts second.stmts) → second.measure ≡ none → second.stmts ≡ [] → HasBlocks m b → HasBlocks n (record { current = settled b; choice = None; frames = b.frames })
+pub settles : (level : ℕ) (m n : Machine) (test : Test) (first second : Body) (b : Blocks) → level ≡ length m.opens.items → m.choice ≡ Some (test, first) → n.choice ≡ None → n.opens ≡ m.opens → Adds level m.current n.current (of_choice test first.measure second.measure) (choice_of test first.stmts.items second.stmts.items) → second.measure ≡ none → second.stmts.items ≡ [] → HasBlocks m b → HasBlocks n (record { current = settled b; choice = None; frames = b.frames })
 settles level m n test first second b deep waits choice opens adds measure stmts h =
     let same : level ≡ length b.frames = deep ∙ opens_length m.opens.items b.frames h.opens in
     let c : IsChoice (length b.frames) (Some (test, first)) b.choice = subst (λ v. IsChoice (length b.frames) v b.choice) waits h.choice in
-    let adds_there : Adds (length b.frames) m.current n.current (of_choice test first.measure second.measure) (choice_of test first.stmts second.stmts) = subst (λ k. Adds k m.current n.current (of_choice test first.measure second.measure) (choice_of test first.stmts second.stmts)) same adds in
+    let adds_there : Adds (length b.frames) m.current n.current (of_choice test first.measure second.measure) (choice_of test first.stmts.items second.stmts.items) = subst (λ k. Adds k m.current n.current (of_choice test first.measure second.measure) (choice_of test first.stmts.items second.stmts.items)) same adds in
     record {
       current = settled_choice (length b.frames) m.current n.current first second test b.choice b.current c adds_there h.current (new_body (suc (length b.frames)) second measure stmts);
       choice = subst (λ v. IsChoice (length b.frames) v None) (sym choice) tt;
@@ -178,14 +178,14 @@ module _ (n last : Machine) (begins : Begins n last) where
   closed_yes test body (No other first) before text fs is same is_before is_body opens = absurd same
   closed_yes test body (Turn count) before text fs is same is_before is_body opens = absurd same
 
-  pub closed_no : (level : ℕ) (test : Test) (old first body : Body) (opener : Opener) (before text : Text) (fs : List Frame) → level ≡ length n.opens.items → n.choice ≡ None → IsOpening (length fs) (o.No test first) opener → Adds level old n.current (of_choice test first.measure body.measure) (choice_of test first.stmts body.stmts) → IsBody (length fs) old before → IsBody (suc (length fs)) body text → AreOpen n.opens.items fs → IsMachine last (closed_by opener before fs text)
+  pub closed_no : (level : ℕ) (test : Test) (old first body : Body) (opener : Opener) (before text : Text) (fs : List Frame) → level ≡ length n.opens.items → n.choice ≡ None → IsOpening (length fs) (o.No test first) opener → Adds level old n.current (of_choice test first.measure body.measure) (choice_of test first.stmts.items body.stmts.items) → IsBody (length fs) old before → IsBody (suc (length fs)) body text → AreOpen n.opens.items fs → IsMachine last (closed_by opener before fs text)
   closed_no level test old first body (Yes other) before text fs deep is same adds is_before is_body opens = absurd same
   closed_no level test old first body (No other x) before text fs deep is (same, is_first) adds is_before is_body opens =
-      begins _ (blocks (joined before (IfElse other x text Nothing)) None fs (subst (λ v. IsBody (length fs) n.current (joined before (IfElse v x text Nothing))) same (if_else_added (length fs) old n.current first body test x text before (subst (λ k. Adds k old n.current (of_choice test first.measure body.measure) (choice_of test first.stmts body.stmts)) (deep ∙ opens_length n.opens.items fs opens) adds) is_before is_first is_body)) (no_choice (length fs) is) opens)
+      begins _ (blocks (joined before (IfElse other x text Nothing)) None fs (subst (λ v. IsBody (length fs) n.current (joined before (IfElse v x text Nothing))) same (if_else_added (length fs) old n.current first body test x text before (subst (λ k. Adds k old n.current (of_choice test first.measure body.measure) (choice_of test first.stmts.items body.stmts.items)) (deep ∙ opens_length n.opens.items fs opens) adds) is_before is_first is_body)) (no_choice (length fs) is) opens)
   closed_no level test old first body (Turn count) before text fs deep is same adds is_before is_body opens = absurd same
 
-  pub closed_turns : (level : ℕ) (count : ℕ) (old body : Body) (opener : Opener) (before text : Text) (fs : List Frame) → level ≡ length n.opens.items → n.choice ≡ None → IsOpening (length fs) (o.Turns count) opener → Adds level old n.current (of_turns count body.measure) (turns_of count body.stmts) → IsBody (length fs) old before → IsBody (suc (length fs)) body text → AreOpen n.opens.items fs → IsMachine last (closed_by opener before fs text)
+  pub closed_turns : (level : ℕ) (count : ℕ) (old body : Body) (opener : Opener) (before text : Text) (fs : List Frame) → level ≡ length n.opens.items → n.choice ≡ None → IsOpening (length fs) (o.Turns count) opener → Adds level old n.current (of_turns count body.measure) (turns_of count body.stmts.items) → IsBody (length fs) old before → IsBody (suc (length fs)) body text → AreOpen n.opens.items fs → IsMachine last (closed_by opener before fs text)
   closed_turns level count old body (Yes other) before text fs deep is same adds is_before is_body opens = absurd same
   closed_turns level count old body (No other first) before text fs deep is same adds is_before is_body opens = absurd same
   closed_turns level count old body (Turn other) before text fs deep is same adds is_before is_body opens =
-      begins _ (blocks (joined before (Loop other text Nothing)) None fs (subst (λ v. IsBody (length fs) n.current (joined before (Loop v text Nothing))) same (turns_added (length fs) old n.current body count text before (subst (λ k. Adds k old n.current (of_turns count body.measure) (turns_of count body.stmts)) (deep ∙ opens_length n.opens.items fs opens) adds) is_before is_body)) (no_choice (length fs) is) opens)
+      begins _ (blocks (joined before (Loop other text Nothing)) None fs (subst (λ v. IsBody (length fs) n.current (joined before (Loop v text Nothing))) same (turns_added (length fs) old n.current body count text before (subst (λ k. Adds k old n.current (of_turns count body.measure) (turns_of count body.stmts.items)) (deep ∙ opens_length n.opens.items fs opens) adds) is_before is_body)) (no_choice (length fs) is) opens)

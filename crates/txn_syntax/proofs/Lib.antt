@@ -1,11 +1,11 @@
 pub mod SoFar
+pub mod ItemsRead
 pub mod Complete
 pub mod Moves
 pub mod Measured
 pub mod TokensRead
 pub mod Grown
 pub mod Opened
-pub mod GoesOn
 pub mod SoundTokens
 pub mod SoundPrograms
 pub mod Narrow

@@ -17,7 +17,7 @@ no_other level (Some a) None is h = absurd h
 no_other level (Some a) (Some b) is h = cc
 
 -- the machine n has one block more open than m, with nothing in it
-pub opens_block : (m n : Machine) (opening : Opening) (opener : Opener) (b : Blocks) → n.choice ≡ m.choice → n.current.measure ≡ none → n.current.stmts ≡ [] → n.opens.items ≡ m.opens.items ++ record { before = m.current; opening = opening } ∷ [] → HasBlocks m b → b.choice ≡ None → IsOpening (length b.frames) opening opener → HasBlocks n (record { current = Nothing; choice = None; frames = record { before = b.current; opener = opener } ∷ b.frames })
+pub opens_block : (m n : Machine) (opening : Opening) (opener : Opener) (b : Blocks) → n.choice ≡ m.choice → n.current.measure ≡ none → n.current.stmts.items ≡ [] → n.opens.items ≡ m.opens.items ++ record { before = m.current; opening = opening } ∷ [] → HasBlocks m b → b.choice ≡ None → IsOpening (length b.frames) opening opener → HasBlocks n (record { current = Nothing; choice = None; frames = record { before = b.current; opener = opener } ∷ b.frames })
 opens_block m n opening opener b choice measure stmts opens h no_choice is =
     record {
       current = new_body (suc (length b.frames)) n.current measure stmts;

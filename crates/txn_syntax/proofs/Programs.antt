@@ -68,9 +68,13 @@ within_of names bytes text h =
     text_within names text (sound_front names (spelled text) (t.CloseBlock ∷ []) all.1)
 
 -- what is kept of a text is a program over the tables, where no limit is broken
-pub is_program : (names : List Named) (bytes : List ℕ) (body : Body) → (text : Text) × (text_of names bytes ≡ Ok text) × IsBody 0 body text → broken_by body.measure ≡ None → IsProgram body.stmts × (reach body.stmts ≤ items_of names)
+pub is_program : (names : List Named) (bytes : List ℕ) (body : Body) → (text : Text) × (text_of names bytes ≡ Ok text) × IsBody 0 body text → broken_by body.measure ≡ None → IsProgram body.stmts.items × (reach body.stmts.items ≤ items_of names)
 is_program names bytes body (x, is_x, keeps) none =
     let u = is_unbroken x (sym (broken_is body.measure x keeps.measure) ∙ none) in
-    let means : body.stmts ≡ meant x = keeps.stmts u.fits in
+    let means : body.stmts.items ≡ meant x = keeps.stmts u.fits in
     let w = within_of names bytes x is_x in
     subst (λ b. IsProgram b × (reach b ≤ items_of names)) (sym means) (record { literals = text_narrow x u.fits.literals; registers = w.0; loops = u.fits.counts; statements = u.fits.statements; deep = rw add-zero at u.fits.depth; steps = u.steps; emits = u.emits }, w.1)
+
+pub none_of : {A : Type 0} (o : Option A) → ((x : A) → o ≡ Some x → ⊥) → o ≡ None
+none_of None h = refl
+none_of (Some x) h = absurd (h x refl)

@@ -12,14 +12,8 @@ use Rattle.txn_syntax.specs.declared.place.Plain.TheVariants as p
 use Rattle.txn_syntax.specs.declared.place.Test.{Test}
 use Rattle.txn_syntax.specs.declared.place.Item.{Item}
 use Rattle.txn_syntax.specs.declared.place.Item.TheVariants as i
-use Rattle.txn_syntax.specs.declared.place.Slot.{Slot}
-use Rattle.txn_syntax.specs.declared.place.Slot.TheVariants.{Left, Right, ReadAt, WriteAt, WriteFrom, IfLeft, IfRight, Emit, Fail}
-use Rattle.txn_syntax.specs.declared.place.Place.{Place}
-use Rattle.txn_syntax.specs.declared.place.Place.TheVariants.{Start, To, Value, ReadName, WriteName, Wants, Signed, BehindLeft, ReadClose, WriteClose, WriteAssign, Compare, OpenIf, Count, OpenLoop, OpenElse, End}
-use Rattle.txn_syntax.specs.declared.place.Step.{Step}
-use Rattle.txn_syntax.specs.declared.place.Step.TheVariants.{Goes, Ends, Fails}
 use Rattle.txn_syntax.specs.Grammar.{Text, Nothing, Simple, If, IfElse, Loop, operand, simple, opened_if, opened_loop, spelled, program}
-use Rattle.txn_syntax.specs.Places.{filled, signed, wanted, start_step, value_step, step}
+use Rattle.txn_syntax.specs.Places.{Slot, Left, Right, ReadAt, WriteAt, WriteFrom, IfLeft, IfRight, Emit, Fail, Place, Start, To, Value, ReadName, WriteName, Wants, Signed, BehindLeft, ReadClose, WriteClose, WriteAssign, Compare, OpenIf, Count, OpenLoop, OpenElse, End, Step, Goes, Ends, Fails, filled, signed, wanted, start_step, value_step, step}
 use Rattle.txn_syntax.specs.Reading.{joined, Opener, Yes, No, Turn, Frame, Blocks, settled, Progress, Before, Within, Behind, closed_by, closed}
 
 -- a statement without its last token

@@ -23,11 +23,11 @@ pub record IsSmall (level : ℕ) (body : List Stmt) : Type 0 where
 -- a body inside so many blocks is that of a text: its measure, and where the text is kept, what it means
 pub record IsBody (level : ℕ) (body : Body) (text : Text) : Type 0 where
   pub measure : IsMeasure body.measure text
-  pub stmts : Fits level text → body.stmts ≡ meant text
-  pub small : IsSmall level body.stmts
+  pub stmts : Fits level text → body.stmts.items ≡ meant text
+  pub small : IsSmall level body.stmts.items
 
 -- one statement more, which is kept exactly where the limits hold inside so many blocks
 pub record Adds (level : ℕ) (old new : Body) (m : Measure) (stmt : Stmt) : Type 0 where
   pub measure : new.measure ≡ then_of old.measure m
-  pub kept : is_kept level new.measure ≡ true → new.stmts ≡ old.stmts ++ stmt ∷ []
-  pub dropped : is_kept level new.measure ≡ false → new.stmts ≡ old.stmts
+  pub kept : is_kept level new.measure ≡ true → new.stmts.items ≡ old.stmts.items ++ stmt ∷ []
+  pub dropped : is_kept level new.measure ≡ false → new.stmts.items ≡ old.stmts.items

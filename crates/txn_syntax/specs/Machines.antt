@@ -1,5 +1,5 @@
 -- How a machine stands for a progress.
-use Rattle.std.specs.Prelude.{◌≡◌, ℕ, suc, List, [], ◌∷◌, ◌++◌, Option, None, Some, length}
+use Rattle.std.specs.Prelude.{◌≡◌, ℕ, suc, List, [], ◌∷◌, ◌++◌, Option, None, Some, is_some, length}
 use Rattle.txn_syntax.specs.declared.place.Test.{Test}
 use Rattle.txn_syntax.specs.declared.body.Body.{Body}
 use Rattle.txn_syntax.specs.declared.machine.Stage.TheVariants as g
@@ -8,6 +8,7 @@ use Rattle.txn_syntax.specs.declared.machine.Opening.TheVariants as o
 use Rattle.txn_syntax.specs.declared.machine.Open.{Open}
 use Rattle.txn_syntax.specs.declared.machine.Machine.{Machine}
 use Rattle.txn_syntax.specs.Grammar.{Text, Nothing}
+use Rattle.txn_syntax.specs.Places.{Start}
 use Rattle.txn_syntax.specs.Reading.{Opener, Yes, No, Turn, Frame, Blocks, Progress, Before, Within, Behind}
 use Rattle.txn_syntax.specs.Bodies.{IsBody}
 
@@ -44,10 +45,10 @@ pub record HasBlocks (m : Machine) (b : Blocks) : Type 0 where
 abbrev pub no_blocks : Blocks
 no_blocks = record { current = Nothing; choice = None; frames = [] }
 
--- a machine stands for a progress
+-- a machine stands for a progress between two items
 abbrev pub IsMachine : Machine → Progress → Type 0
 IsMachine m Before = (m.stage ≡ g.Before) × HasBlocks m no_blocks
-IsMachine m (Within place b) = (m.stage ≡ g.Within place) × HasBlocks m b
+IsMachine m (Within place b) = (m.stage ≡ g.Within) × (place ≡ Start (is_some b.choice)) × HasBlocks m b
 IsMachine m (Behind text) = (m.stage ≡ g.Behind) × IsBody 0 m.current text
 
 -- a whole program, or what is none yet

@@ -1,19 +1,56 @@
 -- What each token does at each place of an item.
-use Rattle.std.specs.Prelude.{ℕ, Bool, if◌then◌else◌}
+use Rattle.std.specs.Prelude.{ℕ, Bool, if◌then◌else◌, Option}
+use Rattle.txn_runs.specs.declared.program.TableRef.{TableRef}
+use Rattle.txn_runs.specs.declared.program.Cmp.{Cmp}
 use Rattle.txn_runs.specs.declared.program.Op.{Op}
 use Rattle.txn_runs.specs.declared.program.Op.TheVariants as o
 use Rattle.txn_tokens.specs.declared.token.Token.{Token}
 use Rattle.txn_tokens.specs.declared.token.Token.TheVariants as t
 use Rattle.txn_syntax.specs.declared.place.Term.{Term}
 use Rattle.txn_syntax.specs.declared.place.Term.TheVariants as e
+use Rattle.txn_syntax.specs.declared.place.Plain.{Plain}
 use Rattle.txn_syntax.specs.declared.place.Plain.TheVariants as p
+use Rattle.txn_syntax.specs.declared.place.Test.{Test}
+use Rattle.txn_syntax.specs.declared.place.Item.{Item}
 use Rattle.txn_syntax.specs.declared.place.Item.TheVariants as i
-use Rattle.txn_syntax.specs.declared.place.Slot.{Slot}
-use Rattle.txn_syntax.specs.declared.place.Slot.TheVariants.{Left, Right, ReadAt, WriteAt, WriteFrom, IfLeft, IfRight, Emit, Fail}
-use Rattle.txn_syntax.specs.declared.place.Place.{Place}
-use Rattle.txn_syntax.specs.declared.place.Place.TheVariants.{Start, To, Value, ReadName, WriteName, Wants, Signed, BehindLeft, ReadClose, WriteClose, WriteAssign, Compare, OpenIf, Count, OpenLoop, OpenElse, End}
-use Rattle.txn_syntax.specs.declared.place.Step.{Step}
-use Rattle.txn_syntax.specs.declared.place.Step.TheVariants.{Goes, Ends, Fails}
+
+-- what an operand is for
+pub data Slot : Type 0 where
+  Left : ℕ → Slot
+  Right : ℕ → Term → Op → Slot
+  ReadAt : ℕ → Option TableRef → Slot
+  WriteAt : Option TableRef → Slot
+  WriteFrom : Option TableRef → Term → Slot
+  IfLeft : Slot
+  IfRight : Term → Cmp → Slot
+  Emit : Slot
+  Fail : Slot
+
+-- how far an item has been read; before it, whether it may be an `else`, as behind the first block of an `if`
+pub data Place : Type 0 where
+  Start : Bool → Place
+  To : ℕ → Place
+  Value : ℕ → Place
+  ReadName : ℕ → Option TableRef → Place
+  WriteName : Option TableRef → Place
+  Wants : Slot → Place
+  Signed : Slot → Place
+  BehindLeft : ℕ → Term → Place
+  ReadClose : ℕ → Option TableRef → Term → Place
+  WriteClose : Option TableRef → Term → Place
+  WriteAssign : Option TableRef → Term → Place
+  Compare : Term → Place
+  OpenIf : Test → Place
+  Count : Place
+  OpenLoop : ℕ → Place
+  OpenElse : Place
+  End : Plain → Place
+
+-- what a token does at a place: it leads on, it ends an item, or no item goes on with it
+pub data Step : Type 0 where
+  Goes : Place → Step
+  Ends : Item → Step
+  Fails : Step
 
 -- the place behind an operand
 abbrev pub filled : Slot → Term → Place

@@ -5,12 +5,8 @@ use Rattle.txn_tokens.specs.declared.token.Token.TheVariants as t
 use Rattle.txn_syntax.specs.declared.place.Test.{Test}
 use Rattle.txn_syntax.specs.declared.place.Item.{Item}
 use Rattle.txn_syntax.specs.declared.place.Item.TheVariants as i
-use Rattle.txn_syntax.specs.declared.place.Place.{Place}
-use Rattle.txn_syntax.specs.declared.place.Place.TheVariants.{Start}
-use Rattle.txn_syntax.specs.declared.place.Step.{Step}
-use Rattle.txn_syntax.specs.declared.place.Step.TheVariants.{Goes, Ends, Fails}
 use Rattle.txn_syntax.specs.Grammar.{Text, Nothing, Simple, If, IfElse, Loop}
-use Rattle.txn_syntax.specs.Places.{step}
+use Rattle.txn_syntax.specs.Places.{Place, Start, Step, Goes, Ends, Fails, step}
 
 -- statements, and then others
 abbrev pub joined : Text → Text → Text

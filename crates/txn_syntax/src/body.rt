@@ -13,17 +13,17 @@ use txn_runs::{Block, Operand, Stmt, TableRef};
 #[derive(Drop)]
 pub struct Body {
     pub measure: Measure,
-    pub stmts: Items<Stmt>,
+    pub stmts: Vec<Stmt>,
 }
 
 impl Body {
     pub fn new(alloc: Global) -> Body
         ensures measure { result.measure ≡ spec.none }
-        ensures stmts { result.stmts ≡ [] }
+        ensures stmts { result.stmts.items ≡ [] }
     {
         Body {
             measure: Measure::none(),
-            stmts: Items::new(alloc),
+            stmts: Vec::new(alloc),
         }
     }
 
@@ -46,7 +46,7 @@ impl Body {
         second: Body,
         level: usize,
     ) -> Result<(), AllocError>
-        ensures { OnOk result (Adds level self.old self.new (spec.of_choice test first.measure second.measure) (choice_of test first.stmts second.stmts)) }
+        ensures { OnOk result (Adds level self.old self.new (spec.of_choice test first.measure second.measure) (choice_of test first.stmts.items second.stmts.items)) }
     {
         let more = Measure::of_choice(test, first.measure, second.measure);
         self.measure = self.measure.then(more);
@@ -58,7 +58,7 @@ impl Body {
 
     /// Adds a loop over a block, inside so many blocks.
     pub fn push_turns(&mut self, count: u64, body: Body, level: usize) -> Result<(), AllocError>
-        ensures { OnOk result (Adds level self.old self.new (spec.of_turns count body.measure) (turns_of count body.stmts)) }
+        ensures { OnOk result (Adds level self.old self.new (spec.of_turns count body.measure) (turns_of count body.stmts.items)) }
     {
         self.measure = self.measure.then(Measure::of_turns(count, body.measure));
         if self.measure.is_kept(level) {
@@ -68,26 +68,34 @@ impl Body {
     }
 }
 
+/// The block of these statements, which keeps no more room than they take.
+pub fn block_of(mut stmts: Vec<Stmt>) -> Block
+    ensures { result.stmts ≡ stmts.items }
+{
+    stmts.shrink_to_fit();
+    Block::new(Items::from_vec(stmts))
+}
+
 // The `if`, where its literals have 64 bits.
-fn choice_of(test: Test, first: Items<Stmt>, second: Items<Stmt>) -> Stmt
-    ensures { test_fits test ≡ true → result ≡ choice_of test first second }
+fn choice_of(test: Test, first: Vec<Stmt>, second: Vec<Stmt>) -> Stmt
+    ensures { test_fits test ≡ true → result ≡ choice_of test first.items second.items }
 {
     Stmt::If {
         left: operand_of(test.left),
         cmp: test.cmp,
         right: operand_of(test.right),
-        yes: Block::new(first),
-        no: Block::new(second),
+        yes: block_of(first),
+        no: block_of(second),
     }
 }
 
 // The loop, where its count is within the limit.
-fn turns_of(count: u64, body: Items<Stmt>) -> Stmt
-    ensures { count ≤ 1000 → result ≡ turns_of count body }
+fn turns_of(count: u64, body: Vec<Stmt>) -> Stmt
+    ensures { count ≤ 1000 → result ≡ turns_of count body.items }
 {
     Stmt::Loop {
         count: small_count(count),
-        body: Block::new(body),
+        body: block_of(body),
     }
 }
 

@@ -1,20 +1,19 @@
-ghost use Rattle.std.specs.Prelude.{◌≡◌, OnOk, IfOk, is_some, true, false, MatchOption, length};
-ghost use Rattle.txn_syntax.specs.Reading.{Blocks, Progress, Opener, Before as BeforeAll, settled, begun, closed, opened, grown, progress_step};
+ghost use Rattle.std.specs.Prelude.{◌≡◌, OnOk, None, length};
+ghost use Rattle.txn_syntax.specs.Reading.{Blocks, Progress, Opener, Before as BeforeAll, settled, begun, closed, opened, grown};
 ghost use Rattle.txn_syntax.specs.Machines.{IsOpening, HasBlocks, IsMachine, FinishesAs};
 
 use crate::body::Body;
-use crate::place::{Item, Place, Step, Test};
+use crate::place::{Item, Test};
 use std::alloc::{AllocError, Global};
 use std::mem;
-use txn_tokens::Token;
 
 /// Where a machine is in the text.
 #[derive(Clone, Copy)]
 pub enum Stage {
     /// Before the first brace.
     Before,
-    /// At a place of an item.
-    Within(Place),
+    /// Between two items.
+    Within,
     /// Behind the last brace.
     Behind,
 }
@@ -35,7 +34,7 @@ pub struct Open {
     pub opening: Opening,
 }
 
-/// Takes the tokens of a program one after the other.
+/// Takes the items of a program one after the other.
 #[derive(Drop)]
 pub struct Machine {
     pub alloc: Global,
@@ -61,45 +60,18 @@ impl Machine {
         }
     }
 
-    /// Takes a token, and tells whether a program goes on with it.
-    pub fn take(&mut self, token: Token) -> Result<bool, AllocError>
-        ensures { IfOk result (λ goes. (p : Progress) → IsMachine self.old p → MatchOption (progress_step p token) (goes ≡ false) (λ q. (goes ≡ true) × IsMachine self.new q)) }
-    {
-        match self.stage {
-            Stage::Before => match token {
-                Token::OpenBlock => {
-                    self.stage = Stage::Within(Place::Start { behind_if: false });
-                    Ok(true)
-                }
-                _ => Ok(false),
-            },
-            Stage::Within(place) => match place.step(token) {
-                Step::Goes(next) => {
-                    self.stage = Stage::Within(next);
-                    Ok(true)
-                }
-                Step::Ends(item) => {
-                    self.grow(item)?;
-                    Ok(true)
-                }
-                Step::Fails => Ok(false),
-            },
-            Stage::Behind => Ok(false),
-        }
-    }
-
     /// What has been read, where it is a whole program.
     pub fn finish(self) -> Option<Body>
         ensures { (p : Progress) → IsMachine self p → FinishesAs result p }
     {
         match self.stage {
             Stage::Behind => Some(self.current),
-            Stage::Before | Stage::Within(_) => None,
+            Stage::Before | Stage::Within => None,
         }
     }
 
-    // An item has been read.
-    fn grow(&mut self, item: Item) -> Result<(), AllocError>
+    /// An item has been read.
+    pub fn grow(&mut self, item: Item) -> Result<(), AllocError>
         ensures { OnOk result ((b : Blocks) → HasBlocks self.old b → IsMachine self.new (grown item b)) }
     {
         match item {
@@ -132,12 +104,11 @@ impl Machine {
         }
     }
 
-    // Before the next item.
-    fn begin(&mut self)
+    /// An item comes next.
+    pub fn begin(&mut self)
         ensures { (b : Blocks) → HasBlocks self.old b → IsMachine self.new (begun b) }
     {
-        let behind_if = self.choice.is_some();
-        self.stage = Stage::Within(Place::Start { behind_if });
+        self.stage = Stage::Within;
     }
 
     // No `else` follows.

@@ -1,16 +1,20 @@
-ghost use Rattle.std.specs.Prelude.{◌≡◌, ◌≤◌, None, IfOk};
+ghost use Rattle.std.specs.Prelude.{◌≡◌, ◌≤◌, ◌∷◌, length, IfOk, OnOk};
 ghost use Rattle.txn_names.specs.Tables.{items_of};
 ghost use Rattle.txn_runs.specs.Bounds.{reach};
 ghost use Rattle.txn_tokens.specs.Tokens.{tokens};
-ghost use Rattle.txn_syntax.specs.Reads.{first_of, unknown_at, first_unknown, text_of, read_of, Gives, GivesBody};
+ghost use Rattle.txn_syntax.specs.Reading.{Progress};
+ghost use Rattle.txn_syntax.specs.Reads.{first_unknown, text_of, read_of, Gives, GivesBody};
+ghost use Rattle.txn_syntax.specs.Machines.{IsMachine};
+ghost use Rattle.txn_syntax.specs.Items.{KeepsOffsets, Took};
 
-use crate::body::Body;
-use crate::machine::Machine;
+use crate::body::{Body, block_of};
+use crate::item_reader::ItemReader;
+use crate::machine::{Machine, Stage};
 use crate::refusal::ReadRefusal;
 use std::alloc::Global;
 use txn_names::Names;
-use txn_runs::{Block, Program};
-use txn_tokens::{Placed, Token, Tokens};
+use txn_runs::Program;
+use txn_tokens::{Placed, Token};
 
 /// The program that bytes spell. Refused as `Syntax` where they spell none, whatever names and numbers mean, with the offset of
 /// the first token with which no program begins, or the number of bytes where the tokens end too early; else as `UnknownTable`
@@ -28,7 +32,7 @@ pub fn read_program(alloc: Global, names: &Names, bytes: &[u8]) -> Result<Progra
     if let Some(which) = body.measure.broken() {
         return Err(ReadRefusal::Limit { which });
     }
-    Ok(Program::new(Block::new(body.stmts)))
+    Ok(Program::new(block_of(body.stmts)))
 }
 
 // Reads the whole text once: its statements, and the offset of the first name that no table has.
@@ -40,29 +44,39 @@ fn read_body(
     ensures body { GivesBody result (text_of names.now bytes.now) }
     ensures unknown { IfOk result (λ read. read.1 ≡ first_unknown (tokens names.now bytes.now)) }
 {
-    let mut tokens = Tokens::new(names, bytes);
+    let mut items = ItemReader::new(names, bytes);
     let mut machine = Machine::new(alloc);
-    let mut unknown = None;
-    while let Some(placed) = tokens.next() {
-        match machine.take(placed.token) {
-            Ok(true) => {}
-            Ok(false) => return Err(ReadRefusal::Syntax { at: placed.at }),
-            Err(_) => return Err(ReadRefusal::OutOfMemory),
-        }
-        unknown = unknown_with(unknown, placed);
+    while let Some(first) = items.next() {
+        take(&mut machine, &mut items, first)?;
     }
+    let unknown = items.unknown();
     match machine.finish() {
         Some(body) => Ok((body, unknown)),
         None => Err(ReadRefusal::Syntax { at: bytes.len() }),
     }
 }
 
-// The offset of the first name that no table has, with one token more.
-fn unknown_with(unknown: Option<usize>, placed: Placed) -> Option<usize>
-    ensures { result ≡ first_of unknown (unknown_at placed.token placed.at None) }
+// Takes what begins with a token: the first brace, or an item.
+fn take(machine: &mut Machine, items: &mut ItemReader, first: Placed) -> Result<(), ReadRefusal>
+    ensures took { (p : Progress) → IsMachine machine.old p → Took result machine.new p (first ∷ items.old.tokens) items.new }
+    ensures fewer { OnOk result (length items.new.tokens ≤ length items.old.tokens) }
+    ensures stays { KeepsOffsets items.old items.new }
 {
-    match (unknown, placed.token) {
-        (None, Token::Name(None)) => Some(placed.at),
-        (unknown, _) => unknown,
+    match machine.stage {
+        Stage::Before => match first.token {
+            Token::OpenBlock => {
+                machine.begin();
+                Ok(())
+            }
+            _ => Err(ReadRefusal::Syntax { at: first.at }),
+        },
+        Stage::Within => match items.item(first, machine.choice.is_some()) {
+            Ok(item) => match machine.grow(item) {
+                Ok(()) => Ok(()),
+                Err(_) => Err(ReadRefusal::OutOfMemory),
+            },
+            Err(at) => Err(ReadRefusal::Syntax { at }),
+        },
+        Stage::Behind => Err(ReadRefusal::Syntax { at: first.at }),
     }
 }

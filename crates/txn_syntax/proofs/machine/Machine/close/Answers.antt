@@ -24,6 +24,6 @@ returns c =
     (elim c.match-opening.branch [
       | in-Yes+in-Some-1 w ↦ closed_yes n last begins w.in-Yes.test c.replace-body.result f.opener f.before b.current fs (ap (λ m. m.choice) w.self-is) (subst (λ v. IsOpening (length fs) v f.opener) w.in-Yes.is opening) (subst (λ m. IsBody (length fs) m.current f.before) (sym w.self-is) before) body (subst (λ m. AreOpen m.opens.items fs) (sym w.self-is) opens)
       | in-Yes+in-None-1 w ↦ closed_yes n last begins w.in-Yes.test c.replace-body.result f.opener f.before b.current fs (ap (λ m. m.choice) w.self-is) (subst (λ v. IsOpening (length fs) v f.opener) w.in-Yes.is opening) (subst (λ m. IsBody (length fs) m.current f.before) (sym w.self-is) before) body (subst (λ m. AreOpen m.opens.items fs) (sym w.self-is) opens)
-      | in-No+in_ok-push_choice-in-No w ↦ closed_no n last begins c.len-level.result w.in-No.test c.replace-body.new.dest w.in-No.first c.replace-body.result f.opener f.before b.current fs (c.len-level.ensures ∙ c.pop.new.self.ok.0 ∙ ap (λ m. length m.opens.items) (sym w.self-is)) (ap (λ m. m.choice) w.self-is ∙ waits) (subst (λ v. IsOpening (length fs) v f.opener) w.in-No.is opening) (subst (λ m. Adds c.len-level.result c.replace-body.new.dest m.current (of_choice w.in-No.test w.in-No.first.measure c.replace-body.result.measure) (choice_of w.in-No.test w.in-No.first.stmts c.replace-body.result.stmts)) (sym w.self-is) w.in_ok-push_choice-in-No.ensures) before body (subst (λ m. AreOpen m.opens.items fs) (sym w.self-is) opens)
-      | in-Turns+in_ok-push_turns-in-Turns w ↦ closed_turns n last begins c.len-level.result w.in-Turns.count c.replace-body.new.dest c.replace-body.result f.opener f.before b.current fs (c.len-level.ensures ∙ c.pop.new.self.ok.0 ∙ ap (λ m. length m.opens.items) (sym w.self-is)) (ap (λ m. m.choice) w.self-is ∙ waits) (subst (λ v. IsOpening (length fs) v f.opener) w.in-Turns.is opening) (subst (λ m. Adds c.len-level.result c.replace-body.new.dest m.current (of_turns w.in-Turns.count c.replace-body.result.measure) (turns_of w.in-Turns.count c.replace-body.result.stmts)) (sym w.self-is) w.in_ok-push_turns-in-Turns.ensures) before body (subst (λ m. AreOpen m.opens.items fs) (sym w.self-is) opens)
+      | in-No+in_ok-push_choice-in-No w ↦ closed_no n last begins c.len-level.result w.in-No.test c.replace-body.new.dest w.in-No.first c.replace-body.result f.opener f.before b.current fs (c.len-level.ensures ∙ c.pop.new.self.ok.0 ∙ ap (λ m. length m.opens.items) (sym w.self-is)) (ap (λ m. m.choice) w.self-is ∙ waits) (subst (λ v. IsOpening (length fs) v f.opener) w.in-No.is opening) (subst (λ m. Adds c.len-level.result c.replace-body.new.dest m.current (of_choice w.in-No.test w.in-No.first.measure c.replace-body.result.measure) (choice_of w.in-No.test w.in-No.first.stmts.items c.replace-body.result.stmts.items)) (sym w.self-is) w.in_ok-push_choice-in-No.ensures) before body (subst (λ m. AreOpen m.opens.items fs) (sym w.self-is) opens)
+      | in-Turns+in_ok-push_turns-in-Turns w ↦ closed_turns n last begins c.len-level.result w.in-Turns.count c.replace-body.new.dest c.replace-body.result f.opener f.before b.current fs (c.len-level.ensures ∙ c.pop.new.self.ok.0 ∙ ap (λ m. length m.opens.items) (sym w.self-is)) (ap (λ m. m.choice) w.self-is ∙ waits) (subst (λ v. IsOpening (length fs) v f.opener) w.in-Turns.is opening) (subst (λ m. Adds c.len-level.result c.replace-body.new.dest m.current (of_turns w.in-Turns.count c.replace-body.result.measure) (turns_of w.in-Turns.count c.replace-body.result.stmts.items)) (sym w.self-is) w.in_ok-push_turns-in-Turns.ensures) before body (subst (λ m. AreOpen m.opens.items fs) (sym w.self-is) opens)
     ])
