@@ -6,7 +6,8 @@ use Rattle.scc_replies.specs.declared.status.Status.TheVariants.{BadWords, BadIn
 use Rattle.scc_script.specs.Ran.{ScriptRan}
 use Rattle.serial_text.specs.Told.{PrintedSerially}
 use Rattle.scc.specs.declared.words.Mode.{Mode}
-use Rattle.scc.specs.Words.{Spells, SpellsScript}
+use Rattle.scc.specs.Words.{Spells, SpellsScript, SpellsGen}
+use Rattle.scc.specs.Generated.{HasGenerated}
 
 -- what a source, a sink and a counter of steps tell at one time
 pub record Outside : Type 0 where
@@ -28,6 +29,10 @@ pub record Served (words : List (List ℕ)) (status : Status) (before after : Ou
   pub script : (k lanes : ℕ) → SpellsScript words k lanes
       → (read : List ℕ) × ScriptRan k lanes status read before.left after.left before.written after.written before.steps after.steps
       × PrintedSerially status read before.written after.written
+  -- `gen SEED COUNT`: the generator's text, or a front of it where writing failed; nothing is read, and no step is made
+  pub gen : (seed count : ℕ) → SpellsGen words seed count
+      → HasGenerated status seed count before.written after.written
+      × (after.left ≡ before.left) × (after.read_faults ≡ before.read_faults) × (after.steps ≡ before.steps)
   -- bad words are exactly those that name no mode
   pub bad_words : status ≡ BadWords → (mode : Mode) → ¬ Spells words mode
   pub good_words : (mode : Mode) → Spells words mode → status ≢ BadWords

@@ -2,7 +2,7 @@
 use Rattle.std.specs.Prelude.{◌≡◌, ℕ, ◌≤◌, List, [], ◌∷◌, length, codes, Some}
 use Rattle.scc_text.specs.Number.{natural_of}
 use Rattle.scc.specs.declared.words.Mode.{Mode}
-use Rattle.scc.specs.declared.words.Mode.TheVariants.{Script}
+use Rattle.scc.specs.declared.words.Mode.TheVariants.{Script, Gen}
 
 -- a number among the words: 1 to 10 digits, within a range
 pub record SpellsNumber (word : List ℕ) (least most number : ℕ) : Type 0 where
@@ -19,6 +19,15 @@ pub record SpellsScript (words : List (List ℕ)) (k lanes : ℕ) : Type 0 where
   pub shadows : SpellsNumber first 1 8 k
   pub width : SpellsNumber second 1 64 lanes
 
+-- `gen SEED COUNT`: a seed of at most 65,536, and 1 to 20,000 programs
+pub record SpellsGen (words : List (List ℕ)) (seed count : ℕ) : Type 0 where
+  pub first : List ℕ
+  pub second : List ℕ
+  pub spelled : words ≡ codes "gen" ∷ first ∷ second ∷ []
+  pub start : SpellsNumber first 0 65536 seed
+  pub programs : SpellsNumber second 1 20000 count
+
 -- the words name this mode
 abbrev pub Spells : List (List ℕ) → Mode → Type 0
 Spells words (Script k lanes) = SpellsScript words k lanes
+Spells words (Gen seed count) = SpellsGen words seed count

@@ -327,6 +327,46 @@ fn a_line_has_at_most_8192_bytes(rt: HostRuntime) -> Result<(), Fail> {
     Ok(())
 }
 
+// The generator's text for the seed 7 and two programs.
+const GENERATED: &[u8] =
+    b"table acct 64\nbegin 61 { r0 = acct[23]; r1 = r0 - 6; acct[23] = r1; r2 = acct[7]; r3 = r2 + 6; acct[7] = r3; loop 1 { r4 = r4 + 1; } emit 6; }\nbegin 607 { r0 = acct[14]; r1 = r0 - 7; acct[14] = r1; r2 = acct[62]; r3 = r2 + 7; acct[62] = r3; loop 2 { r4 = r4 + 1; } emit 7; }\n";
+
+#[test]
+fn the_generator_reads_nothing(rt: HostRuntime) -> Result<(), Fail> {
+    // The text is one piece, and no call of the source is made that could fail.
+    let row = Case {
+        source_fails: &[1],
+        ..plain(b"dump a\n", GENERATED)
+    };
+    let stopped = Case {
+        status: Status::WriteFault,
+        ..row
+    };
+    let cases = [
+        row,
+        Case { most: 1, ..row },
+        Case {
+            sink_fails: &[2],
+            ..row
+        },
+        Case {
+            sink_fails: &[1],
+            written: b"",
+            ..stopped
+        },
+        Case {
+            most: 13,
+            sink_fails: &[2],
+            written: b"table acct 64",
+            ..stopped
+        },
+    ];
+    for case in cases {
+        assert!(rt; ends_so(&rt, &["gen", "7", "2"], case)?);
+    }
+    Ok(())
+}
+
 #[test]
 fn words_name_a_mode(rt: HostRuntime) -> Result<(), Fail> {
     let good = plain(ROW_1, REPLY_1);
@@ -342,7 +382,7 @@ fn words_name_a_mode(rt: HostRuntime) -> Result<(), Fail> {
     ] {
         assert!(rt; ends_so(&rt, &mode, good)?);
     }
-    let words: [[&str; 3]; 9] = [
+    let words: [[&str; 3]; 13] = [
         ["script", "9", "1"],
         ["script", "0", "1"],
         ["script", "1", "0"],
@@ -352,6 +392,10 @@ fn words_name_a_mode(rt: HostRuntime) -> Result<(), Fail> {
         ["script", "1", "00000000001"],
         ["Script", "1", "1"],
         ["batch", "1", "1"],
+        ["gen", "65537", "1"],
+        ["gen", "1", "0"],
+        ["gen", "1", "20001"],
+        ["gen", "-1", "1"],
     ];
     for mode in words {
         assert!(rt; ends_so(&rt, &mode, bad)?);

@@ -3,11 +3,14 @@ ghost use Rattle.std.specs.Prelude.{◌≡◌, ◌≤◌, ℕ, List, map, string
 ghost use Rattle.scc_ports.specs.Ports.{Rose};
 ghost use Rattle.scc_script.specs.Ran.{ScriptRan};
 ghost use Rattle.serial_text.specs.Told.{PrintedSerially};
+ghost use Rattle.scc.specs.Generated.{HasGenerated};
 ghost use Rattle.scc.specs.Served.{Served, outside};
 ghost use Rattle.scc.specs.Exit.{exit_code_of};
+ghost use Rattle.scc.specs.Words.{SpellsGen};
 
 use crate::words::{BadWords, Mode, read_words};
-use scc_ports::{Gate, Sink, Source};
+use scc_gen::put_gen;
+use scc_ports::{Gate, Sink, Source, write_all};
 use scc_script::{Status, script};
 use std::alloc::Global;
 use std::sync::Wait;
@@ -16,7 +19,7 @@ use std::thread::Threads;
 use step_count::Steps;
 
 /// Does what the words ask for: all modes, those with threads among them. Its promises hold if it returns.
-/// For now `script` is the one mode.
+/// For now `script` and `gen` are the modes, and neither needs a thread.
 pub fn scc_top<R: Threads + Wait, S: Source, K: Sink, G: Gate + Sync, L: Ledger>(
     _rt: &R,
     alloc: Global,
@@ -30,12 +33,14 @@ pub fn scc_top<R: Threads + Wait, S: Source, K: Sink, G: Gate + Sync, L: Ledger>
         (outside (S.left source.old) (S.faults source.old) (K.written sink.old) (K.faults sink.old) steps.old)
         (outside (S.left source.new) (S.faults source.new) (K.written sink.new) (K.faults sink.new) steps.new) }
     ensures nothing { result ≡ Status.BadWords → (source.new ≡ source.old) × (sink.new ≡ sink.old) × (steps.new ≡ steps.old) }
+    ensures unread { (seed count : ℕ) → SpellsGen (map string_bytes words.now) seed count → (source.new ≡ source.old) × (steps.new ≡ steps.old) }
 {
     scc_plain(alloc, words, source, sink, steps)
 }
 
-/// Does what the words ask for, where that needs no thread; today that is `script K LANES`. It always returns. `BadWords` exactly
-/// where the words name no mode, with nothing done; the other ends as `scc_script::script`'s.
+/// Does what the words ask for, where that needs no thread: `script K LANES` ends as `scc_script::script`, and `gen SEED COUNT` with
+/// the generator's text written, in one piece, and nothing read. It always returns. `BadWords` exactly where the words name neither,
+/// with nothing done.
 pub fn scc_plain<S: Source, K: Sink, L: Ledger>(
     alloc: Global,
     words: &[String],
@@ -47,10 +52,30 @@ pub fn scc_plain<S: Source, K: Sink, L: Ledger>(
         (outside (S.left source.old) (S.faults source.old) (K.written sink.old) (K.faults sink.old) steps.old)
         (outside (S.left source.new) (S.faults source.new) (K.written sink.new) (K.faults sink.new) steps.new) }
     ensures nothing { result ≡ Status.BadWords → (source.new ≡ source.old) × (sink.new ≡ sink.old) × (steps.new ≡ steps.old) }
+    ensures unread { (seed count : ℕ) → SpellsGen (map string_bytes words.now) seed count → (source.new ≡ source.old) × (steps.new ≡ steps.old) }
 {
     match read_words(words) {
         Ok(Mode::Script { k, lanes }) => serial_script(alloc, k, lanes, source, sink, steps),
+        Ok(Mode::Gen { seed, count }) => generate(alloc, seed, count, sink),
         Err(BadWords) => Status::BadWords,
+    }
+}
+
+// The generator's text, made whole and then handed to the sink as one piece.
+fn generate<K: Sink>(alloc: Global, seed: u32, count: u32, sink: &mut K) -> Status
+    requires seed { seed ≤ 65536 }
+    requires some { 1 ≤ count }
+    requires most { count ≤ 20000 }
+    ensures text { HasGenerated result seed count (K.written sink.old) (K.written sink.new) }
+    ensures write_fault { result ≡ Status.WriteFault → Rose (K.faults sink.old) (K.faults sink.new) }
+{
+    let mut text = Vec::new(alloc);
+    if put_gen(seed, count, &mut text).is_err() {
+        return Status::OutOfMemory;
+    }
+    match write_all(sink, &text) {
+        Ok(()) => Status::Done,
+        Err(_) => Status::WriteFault,
     }
 }
 
@@ -109,6 +134,7 @@ pub fn top_uncounted<L: Ledger, R: Threads + Wait, S: Source, K: Sink, G: Gate +
         (outside (S.left source.old) (S.faults source.old) (K.written sink.old) (K.faults sink.old) 0)
         (outside (S.left source.new) (S.faults source.new) (K.written sink.new) (K.faults sink.new) steps) }
     ensures nothing { result ≡ Status.BadWords → (source.new ≡ source.old) × (sink.new ≡ sink.old) }
+    ensures unread { (seed count : ℕ) → SpellsGen (map string_bytes words.now) seed count → source.new ≡ source.old }
 {
     let mut steps = Steps::<L>::new(blank);
     scc_top(rt, alloc, words, source, sink, gate, &mut steps)

@@ -1,5 +1,5 @@
 // The words of the command line.
-ghost use Rattle.std.specs.Prelude.{◌≡◌, ◌≤◌, ◌^◌, ◌<◌, ℕ, [], ◌∷◌, map, string_bytes, ◌↔◌, IfOk, OnErr, IfSome, IfNone};
+ghost use Rattle.std.specs.Prelude.{◌≡◌, ◌≤◌, ◌^◌, ◌<◌, ℕ, [], ◌∷◌, map, string_bytes, codes, ◌↔◌, IfOk, OnErr, IfSome, IfNone};
 ghost use Rattle.scc.specs.Words.{Spells, SpellsNumber};
 
 use scc_text::read_natural;
@@ -9,31 +9,44 @@ use scc_text::read_natural;
 pub enum Mode {
     /// Answers each line as it is read, with at most `k` shadows a transaction, 1 to 8, and so many lanes, 1 to 64.
     Script { k: u32, lanes: u32 },
+    /// Writes the generator's text for a seed of at most 65,536 and so many programs, 1 to 20,000.
+    Gen { seed: u32, count: u32 },
 }
 
 /// The words name no mode.
 #[derive(Clone, Copy, Debug, PartialEq, Eq)]
 pub struct BadWords;
 
-/// The mode that the words name: `script`, K from 1 to 8 and LANES from 1 to 64, each of 1 to 10 digits. `BadWords` exactly where
-/// they name none.
+/// The mode that the words name: `script`, K from 1 to 8 and LANES from 1 to 64, or `gen`, SEED from 0 to 65,536 and COUNT from 1 to
+/// 20,000, each number of 1 to 10 digits. `BadWords` exactly where they name none.
 pub fn read_words(words: &[String]) -> Result<Mode, BadWords>
     ensures ok { IfOk result (λ mode. Spells (map string_bytes words.now) mode) }
     ensures err { OnErr result ((mode : Mode) → ¬ Spells (map string_bytes words.now) mode) }
 {
     match words {
-        [mode, k, lanes] => read_script(mode.as_str(), k.as_str(), lanes.as_str()),
+        [mode, first, second] => read_mode(mode.as_str(), first.as_str(), second.as_str()),
         _ => Err(BadWords),
     }
 }
 
-fn read_script(mode: &str, k: &str, lanes: &str) -> Result<Mode, BadWords>
-    ensures ok { IfOk result (λ found. Spells (mode.now ∷ k.now ∷ lanes.now ∷ []) found) }
-    ensures err { OnErr result ((found : Mode) → ¬ Spells (mode.now ∷ k.now ∷ lanes.now ∷ []) found) }
+// A mode with two numbers.
+fn read_mode(mode: &str, first: &str, second: &str) -> Result<Mode, BadWords>
+    ensures ok { IfOk result (λ found. Spells (mode.now ∷ first.now ∷ second.now ∷ []) found) }
+    ensures err { OnErr result ((found : Mode) → ¬ Spells (mode.now ∷ first.now ∷ second.now ∷ []) found) }
 {
-    if mode != "script" {
-        return Err(BadWords);
+    if mode == "script" {
+        read_script(first, second)
+    } else if mode == "gen" {
+        read_gen(first, second)
+    } else {
+        Err(BadWords)
     }
+}
+
+fn read_script(k: &str, lanes: &str) -> Result<Mode, BadWords>
+    ensures ok { IfOk result (λ found. Spells (codes "script" ∷ k.now ∷ lanes.now ∷ []) found) }
+    ensures err { OnErr result ((found : Mode) → ¬ Spells (codes "script" ∷ k.now ∷ lanes.now ∷ []) found) }
+{
     let Some(k) = read_number(k.as_bytes(), 1, 8) else {
         return Err(BadWords);
     };
@@ -41,6 +54,19 @@ fn read_script(mode: &str, k: &str, lanes: &str) -> Result<Mode, BadWords>
         return Err(BadWords);
     };
     Ok(Mode::Script { k, lanes })
+}
+
+fn read_gen(seed: &str, count: &str) -> Result<Mode, BadWords>
+    ensures ok { IfOk result (λ found. Spells (codes "gen" ∷ seed.now ∷ count.now ∷ []) found) }
+    ensures err { OnErr result ((found : Mode) → ¬ Spells (codes "gen" ∷ seed.now ∷ count.now ∷ []) found) }
+{
+    let Some(seed) = read_number(seed.as_bytes(), 0, 65_536) else {
+        return Err(BadWords);
+    };
+    let Some(count) = read_number(count.as_bytes(), 1, 20_000) else {
+        return Err(BadWords);
+    };
+    Ok(Mode::Gen { seed, count })
 }
 
 // A number of 1 to 10 digits within a range.
