@@ -7,13 +7,20 @@ use journal_core::{Entry, Journal, put_reply};
 use sqlite_items::Items;
 use std::alloc::{AllocError, Global};
 use std::test::Fail;
-use txn_runs::{Block, Emits, FaultKind, Operand, Outcome, Program, Stmt};
+use txn_runs::{Block, EmitRoom, Emits, Emitted, FaultKind, Operand, Outcome, Program, Stmt};
 
 // The program that does nothing.
 fn nothing(alloc: Global) -> Program
     ensures { result ≡ [] }
 {
     Program::new(Block::new(Items::new(alloc)))
+}
+
+// No numbers.
+fn none(alloc: Global) -> Emitted
+    ensures { result ≡ [] }
+{
+    Emitted::in_room(&Emits::new(), EmitRoom::none(alloc))
 }
 
 // The program `{ fail 7; }`.
@@ -46,7 +53,7 @@ fn tells_what_was_recorded(rt: HostRuntime) -> Result<(), Fail> {
     journal.push_reserved(Entry::Committed {
         txn: 1,
         outcome: Outcome::Done {
-            emits: Emits::new(),
+            emits: none(rt.alloc()),
         },
     });
     journal.push_reserved(Entry::Withdrawn { txn: 2 });
@@ -99,10 +106,11 @@ fn prints_commit_lines(rt: HostRuntime) -> Result<(), Fail> {
     put_reply(
         1,
         &Outcome::Done {
-            emits: Emits::new(),
+            emits: none(rt.alloc()),
         },
         &mut out,
     )?;
+    let emits = Emitted::in_room(&emits, EmitRoom::new(rt.alloc(), 2)?);
     put_reply(20, &Outcome::Done { emits }, &mut out)?;
     put_reply(3, &Outcome::Failed { code: -7 }, &mut out)?;
     put_reply(

@@ -15,7 +15,7 @@ use step_count::Steps;
 use txn_code::{Code, link};
 use txn_interp::{Kind, State};
 use txn_names::Names;
-use txn_runs::{Outcome, Program};
+use txn_runs::{EmitRoom, Outcome, Program};
 use txn_syntax::read_program;
 
 /// Makes the next step, if the run hasn't ended.
@@ -87,7 +87,7 @@ fn stands(
 ) -> Result<bool, AllocError> {
     let walk = walk_program(alloc, program, tables, made)?;
     let run = plain_run(alloc, program, tables, made)?;
-    Ok(is_same(state, &walk) && same_run(&walk, &run))
+    Ok(is_same(alloc, state, &walk)? && same_run(&walk, &run))
 }
 
 /// How a run has ended: the reads in its log, and its commit line. What it has written is laid over the tables,
@@ -100,7 +100,8 @@ pub fn settle(
     requires done { IsTrue state.now.done }
     requires room { state.now.log.room ≡ length tables.old }
 {
-    let outcome = state.outcome();
+    let room = EmitRoom::new(alloc, state.emits().as_slice().len() as u32)?;
+    let outcome = state.outcome(room);
     let mut line = Vec::new(alloc);
     put_reply(1, &outcome, &mut line)?;
     if matches!(outcome, Outcome::Done { .. }) {

@@ -59,7 +59,9 @@ fn is_same_at(alloc: Global, forest: &Forest, txn: u32, place: u32) -> Result<bo
         forest.shadow(txn, place),
         walk_at(alloc, forest, txn, place)?,
     ) {
-        (Some(view), Some(walk)) => { Ok(view.position == walk.made && is_same(view.state, &walk)) }
+        (Some(view), Some(walk)) => {
+            Ok(view.position == walk.made && is_same(alloc, view.state, &walk)?)
+        }
         _ => Ok(false),
     }
 }

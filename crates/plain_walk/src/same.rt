@@ -1,27 +1,31 @@
 // Copied executions set beside plain walks.
 use crate::Walk;
+use std::alloc::{AllocError, Global};
 use txn_interp::State;
-use txn_runs::{End, Outcome};
+use txn_runs::{EmitRoom, End, Outcome};
 
 /// Whether the state is where the walk is.
-pub fn is_same(state: &State, walk: &Walk) -> bool {
-    state.position() == walk.made
+pub fn is_same(alloc: Global, state: &State, walk: &Walk) -> Result<bool, AllocError> {
+    let same = state.position() == walk.made
         && state.ended() != walk.cut
-        && same_end(state, walk)
         && state.emits().as_slice() == walk.emits.as_slice()
         && same_registers(state, walk)
         && same_reads(state, walk)
-        && same_writes(state, walk)
+        && same_writes(state, walk);
+    Ok(same && same_end(alloc, state, walk)?)
 }
 
-fn same_end(state: &State, walk: &Walk) -> bool {
+fn same_end(alloc: Global, state: &State, walk: &Walk) -> Result<bool, AllocError> {
     if !state.ended() {
-        return walk.end == End::Going;
+        return Ok(walk.end == End::Going);
     }
-    match state.outcome() {
-        Outcome::Done { .. } => walk.end == End::Going,
-        Outcome::Failed { code } => walk.end == End::Failed { code },
-        Outcome::Fault { kind } => walk.end == End::Fault { kind },
+    let room = EmitRoom::new(alloc, state.emits().as_slice().len() as u32)?;
+    match state.outcome(room) {
+        Outcome::Done { emits } => {
+            Ok(walk.end == End::Going && emits.as_slice() == walk.emits.as_slice())
+        }
+        Outcome::Failed { code } => Ok(walk.end == End::Failed { code }),
+        Outcome::Fault { kind } => Ok(walk.end == End::Fault { kind }),
     }
 }
 

@@ -38,6 +38,7 @@ pub mod Quiet
 pub mod Refilling
 pub mod RenewedForest
 pub mod Renewing
+pub mod RoomLaws
 pub mod Rows
 pub mod SeatPlaces
 pub mod Seating

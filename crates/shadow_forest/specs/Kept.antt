@@ -1,14 +1,14 @@
 -- What the fields of a forest keep.
-use Rattle.std.specs.Prelude.{◌≡◌, ℕ, ◌+◌, ◌-◌, ◌≤◌, Bool, true, if◌then◌else◌, List, map, filter, length, slice_get, Option, None, Some}
+use Rattle.std.specs.Prelude.{◌≡◌, ℕ, ◌+◌, ◌-◌, ◌≤◌, Bool, true, if◌then◌else◌, List, map, filter, length, slice_get, slice_index_or, Option, None, Some}
 use Rattle.std.specs.List.{AllByRecursion}
 use Rattle.txn_runs.specs.Run.{Tables}
-use Rattle.txn_runs.specs.Bounds.{IsProgram, reach}
+use Rattle.txn_runs.specs.Bounds.{IsProgram, reach, emits_max}
 use Rattle.txn_runs.specs.declared.program.Program.{Program}
 use Rattle.txn_code.specs.Nodes.{nodes_of}
 use Rattle.txn_interp.specs.State.{IsRun}
 use Rattle.journal_core.specs.declared.entry.Entry.{Entry}
 use Rattle.journal_core.specs.Recorded.{Recorded}
-use Rattle.journal_core.specs.Journal.{began, has_begun, is_sealed, program_of, deadline_of}
+use Rattle.journal_core.specs.Journal.{began, has_begun, is_live, is_sealed, program_of, deadline_of}
 use Rattle.forest_model.specs.Forest.{Forest, wanted}
 use Rattle.forest_model.specs.Start.{waits, numbers}
 use Rattle.forest_model.specs.Sound.{IsSound}
@@ -71,6 +71,15 @@ numbers_waiting ws = map (λ (w : Waiting). w.1) ws
 -- each waits with the deadline that is kept of it
 abbrev pub AreQueued : List Txn → List Waiting → Type 0
 AreQueued kept ws = AllByRecursion (λ (w : Waiting). deadline_at kept w.1 ≡ w.0) ws
+
+-- for how many numbers there is room for t
+abbrev pub room_at : List ℕ → ℕ → ℕ
+room_at rooms t = slice_index_or rooms (t - 1) 0
+
+-- a room is kept for all that began, and for each that is live it holds what its program emits at most
+pub record HaveRooms (journal : List Entry) (rooms : List ℕ) : Type 0 where
+  pub many : length rooms ≡ began journal
+  pub each : (t : ℕ) → is_live journal t ≡ true → emits_max (program_of journal t) ≤ room_at rooms t
 
 -- the entries that are still to come without another begin: an end for each that is live, and the seal
 abbrev pub owed : ℕ → ℕ → Bool → ℕ

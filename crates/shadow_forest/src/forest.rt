@@ -33,6 +33,7 @@ use crate::committing::{cut_others, start_waiting};
 use crate::giving::slot_out;
 use crate::picking::{pick, role_at};
 use crate::priority::first_ended;
+use crate::rooms::{free_room, take_room};
 use crate::settling::{renew, renew_around, renew_readers, wanted_at};
 use crate::txn::{Txn, code_of, deadline_of};
 use block_rule::{Role, Row, Standing, status};
@@ -46,7 +47,7 @@ use std::sync::ledger::Ledger;
 use step_count::Steps;
 use txn_code::link;
 use txn_interp::{Kind, State};
-use txn_runs::{Outcome, Program};
+use txn_runs::{EmitRoom, Outcome, Program};
 use wait_list::WaitList;
 
 /// How many transactions may begin.
@@ -61,6 +62,8 @@ pub struct Forest {
     journal: Journal,
     tables: Table,
     txns: Vec<Txn>,
+    // for what each transaction emits, number 1 first; who has ended has none
+    rooms: Vec<EmitRoom>,
     waiting: WaitList,
     lanes: Lanes,
     resumed: Vec<Resumed>,
@@ -74,7 +77,7 @@ impl Model for Forest {
     ghost use Rattle.journal_core.specs.contracts.entry.Entry as entry;
     ghost use Rattle.shadow_forest.specs.View.{View};
     ghost use Rattle.shadow_forest.specs.Answers.{resumed_pair};
-    ghost use Rattle.shadow_forest.specs.Kept.{forest_of, numbers_waiting, IsForest, AreQueued};
+    ghost use Rattle.shadow_forest.specs.Kept.{forest_of, numbers_waiting, IsForest, AreQueued, HaveRooms};
 
     ghost Value = { View };
 
@@ -86,7 +89,7 @@ impl Model for Forest {
       starts = f.starts;
     } };
 
-    ghost invariant = { λ f. IsForest f.journal f.tables f.txns.items (numbers_waiting f.waiting) f.lanes × (f.lanes.lanes ≤ vec_capacity f.resumed) × AreQueued f.txns.items f.waiting };
+    ghost invariant = { λ f. IsForest f.journal f.tables f.txns.items (numbers_waiting f.waiting) f.lanes × (f.lanes.lanes ≤ vec_capacity f.resumed) × AreQueued f.txns.items f.waiting × HaveRooms f.journal.entries f.rooms.items };
 }
 
 impl Forest {
@@ -110,6 +113,7 @@ impl Forest {
             journal,
             tables: table,
             txns: Vec::new(alloc),
+            rooms: Vec::new(alloc),
             waiting: WaitList::new(alloc),
             lanes: lines,
             resumed,
@@ -644,9 +648,11 @@ impl Forest {
         ensures refused { OnErr result (self.new ≡ self.old) }
     {
         let code = link(self.alloc, &program)?;
+        let room = EmitRoom::new(self.alloc, program.emits_max())?;
         let live = self.lanes.len() + self.waiting.len() as u32;
         self.journal.reserve(live + 3)?;
         self.txns.reserve(1)?;
+        self.rooms.reserve(1)?;
         let txn = self.journal.began() + 1;
         if self.lanes.len() < self.lanes.lanes() {
             self.lanes.start(txn, &code);
@@ -659,6 +665,7 @@ impl Forest {
             deadline,
             program,
         });
+        self.rooms.push_reserved(room);
         Ok(txn)
     }
 
@@ -723,8 +730,9 @@ impl Forest {
         requires place { (u : Started) × (slice_get self.old.numbers.started place ≡ Some u) × (find_started self.old.numbers.started txn ≡ Some u) × (is_ended self.old.numbers u ≡ true) }
         ensures { (u : Started) → find_started self.old.numbers.started txn ≡ Some u → self.new ≡ told_commit self.old txn (committed self.old.numbers u) }
     {
+        let room = take_room(&mut self.rooms, txn, self.alloc);
         let state = self.lanes.state(place, 0);
-        let outcome = state.outcome();
+        let outcome = state.outcome(room);
         self.resumed.clear();
         if is_done(&outcome) {
             state.writes().lay_over(&mut self.tables);
@@ -743,6 +751,7 @@ impl Forest {
         requires open { is_sealed self.old.numbers.journal ≡ false }
         ensures { self.new ≡ withdraw_view self.old txn }
     {
+        free_room(&mut self.rooms, txn, self.alloc);
         self.resumed.clear();
         self.journal.push_reserved(Entry::Withdrawn { txn });
         self.lanes.remove(txn);

@@ -11,6 +11,7 @@ mod giving;
 mod kept;
 mod picking;
 mod priority;
+mod rooms;
 mod send;
 mod settling;
 mod txn;

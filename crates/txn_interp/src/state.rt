@@ -9,7 +9,7 @@ use std::marker::Model;
 use std::sync::ledger::Ledger;
 use step_count::Steps;
 use txn_code::{Act, Code, Node};
-use txn_runs::{Cmp, Emits, End, Kind, Op, Operand, Outcome, TableRef, item_at};
+use txn_runs::{Cmp, EmitRoom, Emits, Emitted, End, Kind, Op, Operand, Outcome, TableRef, item_at};
 
 /// An execution of a program, which can be copied.
 #[derive(Drop)]
@@ -576,17 +576,16 @@ impl State {
         self.done
     }
 
-    /// How the run has ended; it has.
-    pub fn outcome(&self) -> Outcome
-        requires { IsTrue self.now.done }
+    /// How the run has ended; it has. What it has emitted is laid into the room, which is large enough for it. Takes no memory.
+    pub fn outcome(&self, room: EmitRoom) -> Outcome
+        requires done { IsTrue self.now.done }
+        requires room { length self.now.emits ≤ room }
         ensures { (nodes : List Node) (body : List Stmt) (tables : Tables) → RunsOver nodes body tables self.now → result ≡ outcome_of body tables }
     {
         match self.end {
-            End::Going => {
-                let mut emits = Emits::new();
-                emits.copy_from(&self.emits);
-                Outcome::Done { emits }
-            }
+            End::Going => Outcome::Done {
+                emits: Emitted::in_room(&self.emits, room),
+            },
             End::Failed { code } => Outcome::Failed { code },
             End::Fault { kind } => Outcome::Fault { kind },
         }

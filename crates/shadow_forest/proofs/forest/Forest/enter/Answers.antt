@@ -1,4 +1,4 @@
-use Rattle.std.proofs.Common.{◌≡◌, ◌+◌, ◌≤◌, ◌<◌, ◌++◌, false, [], ◌∷◌, length, map, refl, ap, sym, subst, ◌∙◌, arith}
+use Rattle.std.proofs.Common.{◌≡◌, ℕ, List, ◌+◌, ◌≤◌, ◌<◌, ◌++◌, false, [], ◌∷◌, length, map, refl, ap, sym, subst, ◌∙◌, arith}
 use Rattle.std.specs.Vec.{vec_capacity}
 use Rattle.txn_runs.specs.Bounds.{reach, IsProgram}
 use Rattle.journal_core.specs.declared.entry.Entry.TheVariants.{Began}
@@ -13,8 +13,10 @@ use Rattle.shadow_forest.specs.Answers.{resumed_pair}
 use Rattle.std.specs.List.{AllByRecursion}
 use Rattle.shadow_forest.specs.declared.txn.Txn.{Txn}
 use Rattle.shadow_forest.specs.Ready.{IsCarried}
-use Rattle.shadow_forest.specs.Kept.{IsForest, AreQueued, forest_of, numbers_waiting}
+use Rattle.shadow_forest.specs.Kept.{IsForest, AreQueued, HaveRooms, forest_of, numbers_waiting}
+use Rattle.journal_core.proofs.Legal.{counts}
 use Rattle.shadow_forest.proofs.Carrying.{waiting-carried}
+use Rattle.shadow_forest.proofs.RoomLaws.{rooms_begun}
 use Rattle.shadow_forest.proofs.Queue.{numbers-many, numbers-push, queue-below, queued-kept, queued-more}
 use Rattle.shadow_forest.proofs.BeginningEntry.{is_pushed}
 use Rattle.shadow_forest.proofs.BeginningSeats.{not_found}
@@ -141,6 +143,22 @@ starts_between c = elim c.if-len-lanes.branch [ then-len-lanes w ↦ ap (λ f. f
 kept_more : (c : After-push_reserved-2) → c.push_reserved.new.self.items ≡ c.self.inside.txns.items ++ record { deadline = c.args.deadline; code = c.in_ok-code.code } ∷ []
 kept_more c = c.push_reserved.ensures.items ∙ ap (λ xs. xs ++ record { deadline = c.args.deadline; code = c.in_ok-code.code } ∷ []) (ap (λ v. v.items) (txns_between c) ∙ c.in_ok-reserve-2.ensures.items)
 
+rooms_between : (c : After-push_reserved-2) → c.if-len-lanes.self-inside.rooms.items ≡ c.self.inside.rooms.items
+rooms_between c =
+    elim c.if-len-lanes.branch [ then-len-lanes w ↦ ap (λ f. f.rooms.items) w.self-inside-is | else-len-lanes+in_ok-add w ↦ ap (λ f. f.rooms.items) w.self-inside-is ] ∙ c.in_ok-reserve-3.ensures.items
+
+-- each has its room
+roomy : (c : After-push_reserved-2) (rooms : List ℕ) → rooms ≡ c.if-len-lanes.self-inside.rooms.items ++ c.in_ok-room.room ∷ [] → HaveRooms c.push_reserved-2.new.self.entries rooms
+roomy c rooms more =
+    let i = c.self.inside in
+    let number : c.began-txn.result + 1 ≡ began i.journal.entries + 1 = ap (λ n. n + 1) (c.began-txn.ensures ∙ ap began c.in_ok-reserve.ensures.entries) in
+    let entries : c.push_reserved-2.new.self.entries ≡ i.journal.entries ++ Began (c.began-txn.result + 1) c.args.deadline c.args.program ∷ [] =
+    c.push_reserved-2.ensures.entries ∙ ap (λ es. es ++ Began (c.began-txn.result + 1) c.args.deadline c.args.program ∷ []) (ap (λ (j : Recorded). j.entries) (journal_between c) ∙ c.in_ok-reserve.ensures.entries)
+    in
+    rw (entries, more, rooms_between c)
+    (rooms_begun i.journal.entries i.rooms.items (c.began-txn.result + 1) c.args.deadline c.args.program c.in_ok-room.room (counts i.journal.opening i.journal.entries c.self.invariant.0.sound.right.legal) c.self.invariant.3 number
+    (omega (arith, c.in_ok-room.ensures, c.emits_max.ensures.exact)))
+
 pub invariant_of-self-2 : goal.invariant_of-self-2
 invariant_of-self-2 c =
     let a = (goal.at.invariant_of-self-2 c).After-push_reserved-2 in
@@ -151,6 +169,7 @@ invariant_of-self-2 c =
           (subst (λ xs. IsForest j c.self.inside.tables xs (numbers_waiting m.waiting) m.lanes) (sym (kept_more a)) h.forest),
       subst (λ v. m.lanes.lanes ≤ vec_capacity v) (sym (resumed_between a)) (subst (λ n. n ≤ vec_capacity c.self.inside.resumed) (sym h.lanes) c.self.invariant.1),
       subst (λ xs. AreQueued xs m.waiting) (sym (kept_more a)) (queued a),
+      roomy a c.push_reserved-3.new.self.items c.push_reserved-3.ensures.items,
     )
 
 pub returns-clause-next : goal.returns-clause-next

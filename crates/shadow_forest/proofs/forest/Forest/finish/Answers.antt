@@ -1,10 +1,12 @@
-use Rattle.std.proofs.Common.{◌≡◌, [], ◌∷◌, ◌++◌, filter_map, map, length, refl, ap, sym, subst, ◌∙◌}
-use Rattle.std.specs.Prelude.{slice_get}
+use Rattle.std.proofs.Common.{◌≡◌, ◌≤◌, ◌-◌, true, arith, [], ◌∷◌, ◌++◌, filter_map, map, length, refl, ap, sym, subst, ◌∙◌}
+use Rattle.std.specs.Prelude.{slice_get, slice_set}
 use Rattle.std.specs.Vec.{vec_capacity}
+use Rattle.txn_runs.specs.Bounds.{emits_max}
 use Rattle.txn_runs.specs.Serial.{outcome_of, over}
 use Rattle.journal_core.specs.Recorded.{Recorded}
 use Rattle.journal_core.specs.declared.entry.Entry.TheVariants.{Committed}
 use Rattle.journal_core.specs.Journal.{is_live, program_of}
+use Rattle.journal_core.proofs.Legal.{counts}
 use Rattle.forest_model.specs.Runs.{is_done as is_done_of}
 use Rattle.forest_model.specs.Forest.{Forest, find_started, is_ended}
 use Rattle.forest_model.specs.Start.{next_to_start}
@@ -20,6 +22,7 @@ use Rattle.shadow_forest.proofs.RenewedForest.{unsettled_carried}
 use Rattle.shadow_forest.proofs.Around.{IsAfterEnd, around_is_all}
 use Rattle.shadow_forest.proofs.Starting.{IsUnstarted, IsFilled, queue_carried, queue_apart, next_is, filled_keeps}
 use Rattle.shadow_forest.proofs.Refilling.{IsRefilled, refilled_keeps, refilled_forest, refilled_lanes}
+use Rattle.shadow_forest.proofs.RoomLaws.{room_there, rooms_committed, emits_fit}
 use Rattle.shadow_forest.proofs.SeatPlaces.{state-at}
 use Rattle.shadow_forest.proofs.Placing.{all_carried}
 use Rattle.shadow_forest.proofs.Finishing.{IsEndAt, end_at, outcome_from, IsCutStep, done_step, undone_step, IsWritten, after_end, written_forest, written_keeps, written_back, written_settles, written_lanes, told_view, same_ending}
@@ -40,11 +43,33 @@ ending c =
 state_is : (c : After-state-state) (e : IsEndAt c.self.inside.journal c.self.inside.tables c.self.inside.lanes c.args.place c.args.txn) → c.state-state.result.now ≡ e.seat.optimistic.state
 state_is c e = sym (state-at c.self.inside.lanes.seats c.args.place e.seat c.state-state.result.now e.there c.state-state.ensures.state)
 
-pub outcome-outcome-requires : goal.outcome-outcome-requires
-outcome-outcome-requires c =
-    let e = ending (goal.at.outcome-outcome-requires c).After-self in
+pub outcome-outcome-requires-clause-done : goal.outcome-outcome-requires-clause-done
+outcome-outcome-requires-clause-done c =
+    let e = ending (goal.at.outcome-outcome-requires-clause-done c).After-self in
     let i = c.self.inside in
     rw (state_is c e, whole_done (program_of i.journal.entries e.seat.number) i.tables e.seat.optimistic e.whole) refl
+
+-- its room is there, and large enough for what it has emitted
+live : (c : After-self) → is_live c.self.inside.journal.entries c.args.txn ≡ true
+live c = let e = ending c in ap (is_live c.self.inside.journal.entries) (sym e.number) ∙ e.live
+
+there : (c : After-self) → (1 ≤ c.args.txn) × (c.args.txn ≤ length c.self.inside.rooms.items)
+there c = let i = c.self.inside in room_there i.journal.entries i.rooms.items c.args.txn (counts i.journal.opening i.journal.entries c.self.invariant.0.sound.right.legal) c.self.invariant.3 (live c)
+
+pub take_room-room-requires-clause-least : goal.take_room-room-requires-clause-least
+take_room-room-requires-clause-least c = (there (goal.at.take_room-room-requires-clause-least c).After-self).0
+
+pub take_room-room-requires-clause-most : goal.take_room-room-requires-clause-most
+take_room-room-requires-clause-most c = (there (goal.at.take_room-room-requires-clause-most c).After-self).1
+
+pub outcome-outcome-requires-clause-room : goal.outcome-outcome-requires-clause-room
+outcome-outcome-requires-clause-room c =
+    let a = (goal.at.outcome-outcome-requires-clause-room c).After-self in
+    let e = ending a in
+    let i = c.self.inside in
+    let fits : length e.seat.optimistic.state.emits ≤ emits_max (program_of i.journal.entries e.seat.number) = emits_fit (program_of i.journal.entries e.seat.number) i.tables e.seat.optimistic.state e.whole.stands in
+    let same : emits_max (program_of i.journal.entries e.seat.number) ≡ emits_max (program_of i.journal.entries c.args.txn) = ap (λ n. emits_max (program_of i.journal.entries n)) e.number in
+    rw (state_is c e, c.take_room-room.ensures.room) (omega (arith, fits, same, c.self.invariant.3.each c.args.txn (live a)))
 
 pub lay_over-requires : goal.lay_over-requires
 lay_over-requires c =
@@ -109,6 +134,9 @@ same_journal c = elim c.if-is_done.branch [ then-is_done w ↦ ap (λ (x : Insid
 
 same_txns : (c : After-deref-2) → c.if-is_done.self-inside.txns.items ≡ c.self.inside.txns.items
 same_txns c = elim c.if-is_done.branch [ then-is_done w ↦ ap (λ (x : Inside). x.txns.items) w.self-inside-is | else-is_done w ↦ ap (λ (x : Inside). x.txns.items) w.self-inside-is ]
+
+same_rooms : (c : After-deref-2) → c.if-is_done.self-inside.rooms.items ≡ slice_set c.self.inside.rooms.items (c.args.txn - 1) 0
+same_rooms c = elim c.if-is_done.branch [ then-is_done w ↦ ap (λ (x : Inside). x.rooms.items) w.self-inside-is | else-is_done w ↦ ap (λ (x : Inside). x.rooms.items) w.self-inside-is ] ∙ c.take_room-room.ensures.left
 
 same_line : (c : After-deref-2) → c.if-is_done.self-inside.waiting ≡ c.self.inside.waiting
 same_line c = elim c.if-is_done.branch [ then-is_done w ↦ ap (λ (x : Inside). x.waiting) w.self-inside-is | else-is_done w ↦ ap (λ (x : Inside). x.waiting) w.self-inside-is ]
@@ -230,6 +258,8 @@ invariant_of-self c =
       refilled_keeps j x.tables x.txns.items (numbers_waiting x.waiting) left before w.result (numbers_waiting w.new.waiting) w.new.lanes c.renew_around.new.lanes u re,
       rw (lanes, same_room a) c.self.invariant.1,
       subst (λ xs. AreQueued xs w.new.waiting) c.deref-2.ensures.value w.ensures.queued,
+      rw (c.push_reserved.ensures.entries, same_journal a, same_rooms a)
+          (rooms_committed i.journal.entries i.rooms.items c.args.txn c.outcome-outcome.result c.self.invariant.3 (there (goal.at.invariant_of-self c).After-self).0 (counts i.journal.opening i.journal.entries c.self.invariant.0.sound.right.legal)),
     )
 
 pub returns : goal.returns

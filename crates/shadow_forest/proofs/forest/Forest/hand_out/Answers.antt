@@ -55,7 +55,7 @@ pub invariant_of-self : goal.invariant_of-self
 invariant_of-self c =
     let i = c.self.inside in
     let k = row-at i.journal i.tables i.txns.items (numbers_waiting i.waiting) i.lanes _ _ c.place_of-place.result c.args.self.now c.args.row.now c.self.view_is c.self.invariant.0 c.place_of-place.ensures in
-    (handed-kept i.journal i.tables i.txns.items (numbers_waiting i.waiting) i.lanes _ _ c.place_of-place.result c.args.self.now c.args.row.now c.self.view_is c.self.invariant.0 k c.set_out.new.self c.set_out.ensures, subst (λ (x : Seated). x.lanes ≤ vec_capacity i.resumed) (sym c.set_out.ensures) c.self.invariant.1, c.self.invariant.2)
+    (handed-kept i.journal i.tables i.txns.items (numbers_waiting i.waiting) i.lanes _ _ c.place_of-place.result c.args.self.now c.args.row.now c.self.view_is c.self.invariant.0 k c.set_out.new.self c.set_out.ensures, subst (λ (x : Seated). x.lanes ≤ vec_capacity i.resumed) (sym c.set_out.ensures) c.self.invariant.1, c.self.invariant.2, c.self.invariant.3)
 
 pub returns-clause-next : goal.returns-clause-next
 returns-clause-next c =

@@ -1,4 +1,4 @@
-use Rattle.std.proofs.Common.{◌≡◌, ◌==◌, true, false, not, [], filter, map, length, ap, sym, subst, ◌∙◌}
+use Rattle.std.proofs.Common.{◌≡◌, ◌≤◌, ◌==◌, true, false, not, [], filter, map, length, ap, sym, subst, ◌∙◌}
 use Rattle.journal_core.specs.declared.entry.Entry.TheVariants.{Withdrawn}
 use Rattle.journal_core.specs.Journal.{is_live, is_sealed}
 use Rattle.forest_model.specs.Forest.{Forest}
@@ -15,13 +15,14 @@ use Rattle.shadow_forest.proofs.Around.{IsAfterEnd, around_is_all}
 use Rattle.shadow_forest.proofs.EndedSeats.{noted_seats, same_each}
 use Rattle.shadow_forest.proofs.Starting.{IsUnstarted, IsFilled, queue_carried, queue_apart, next_is, filled_keeps}
 use Rattle.shadow_forest.proofs.Refilling.{IsRefilled, refilled_keeps, refilled_forest, refilled_lanes}
-use Rattle.journal_core.proofs.Legal.{begun-live}
+use Rattle.journal_core.proofs.Legal.{begun-live, counts}
 use Rattle.shadow_forest.proofs.Carrying.{begun-carried}
 use Rattle.shadow_forest.proofs.Queue.{numbers-less, queued-less}
 use Rattle.shadow_forest.proofs.BeginningEntry.{is_pushed}
+use Rattle.shadow_forest.proofs.RoomLaws.{room_there, rooms_withdrawn}
 use Rattle.shadow_forest.proofs.Leaving.{left_keeps, left_forest, withdraw_view_is}
 use Rattle.shadow_forest.proofs.forest.Forest.leave.Goals as goal
-use Rattle.shadow_forest.proofs.forest.Forest.leave.Goals.{After-deref-2, After-deref-3, After-renew_around}
+use Rattle.shadow_forest.proofs.forest.Forest.leave.Goals.{After-self, After-deref-2, After-deref-3, After-renew_around}
 
 -- the queue without the one that leaves
 retained : (c : After-deref-2) → numbers_waiting c.remove-2.new.self ≡ filter (λ u. not (u == c.args.txn)) (numbers_waiting c.self.inside.waiting)
@@ -46,6 +47,18 @@ unstarted c =
     (subst (λ j. IsUnstarted j i.tables i.txns.items (filter (λ u. not (u == c.args.txn)) (numbers_waiting i.waiting)) (record i.lanes { seats = seats_without c.args.txn i.lanes.seats }) (map started_of i.lanes.seats))
     (sym (is_pushed i.journal c.push_reserved.new.self (Withdrawn c.args.txn) c.push_reserved.ensures.opening c.push_reserved.ensures.entries))
     (left_keeps i.journal i.tables i.txns.items (numbers_waiting i.waiting) i.lanes c.args.txn c.push_reserved.new.self.spare c.self.invariant.0 (live_inside c) (open_inside c) c.push_reserved.ensures.room))
+
+-- its room is there
+there : (c : After-self) → (1 ≤ c.args.txn) × (c.args.txn ≤ length c.self.inside.rooms.items)
+there c =
+    let i = c.self.inside in
+    room_there i.journal.entries i.rooms.items c.args.txn (counts i.journal.opening i.journal.entries c.self.invariant.0.sound.right.legal) c.self.invariant.3 (ap (λ (v : View). is_live v.numbers.journal c.args.txn) c.self.view_is ∙ c.requires.live)
+
+pub free_room-requires-clause-least : goal.free_room-requires-clause-least
+free_room-requires-clause-least c = (there (goal.at.free_room-requires-clause-least c).After-self).0
+
+pub free_room-requires-clause-most : goal.free_room-requires-clause-most
+free_room-requires-clause-most c = (there (goal.at.free_room-requires-clause-most c).After-self).1
 
 pub deadline_of-requires-clause-least : goal.deadline_of-requires-clause-least
 deadline_of-requires-clause-least c =
@@ -138,6 +151,8 @@ invariant_of-self c =
       refilled_keeps j i.tables i.txns.items (numbers_waiting c.remove-2.new.self) c.remove.new.self before w.result (numbers_waiting w.new.waiting) w.new.lanes c.renew_around.new.lanes u re,
       rw (lanes, c.clear.ensures.capacity) c.self.invariant.1,
       subst (λ xs. AreQueued xs w.new.waiting) c.deref-2.ensures.value w.ensures.queued,
+      rw (c.push_reserved.ensures.entries, c.free_room.ensures)
+          (rooms_withdrawn i.journal.entries i.rooms.items c.args.txn c.self.invariant.3 (there (goal.at.invariant_of-self c).After-self).0 (counts i.journal.opening i.journal.entries c.self.invariant.0.sound.right.legal)),
     )
 
 pub returns : goal.returns

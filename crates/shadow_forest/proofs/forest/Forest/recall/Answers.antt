@@ -14,6 +14,7 @@ invariant_of-self c =
       subst (IsForest i.journal i.tables i.txns.items (numbers_waiting i.waiting)) (sym c.recall.ensures) (recalled_kept i.journal i.tables i.txns.items (numbers_waiting i.waiting) i.lanes c.self.invariant.0),
       subst (λ l. l.lanes ≤ vec_capacity i.resumed) (sym c.recall.ensures) c.self.invariant.1,
       c.self.invariant.2,
+      c.self.invariant.3,
     )
 
 pub returns : goal.returns

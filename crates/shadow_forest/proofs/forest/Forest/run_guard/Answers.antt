@@ -135,7 +135,7 @@ ran g c =
     }
 
 pub invariant_of-self : goal.invariant_of-self
-invariant_of-self g c = ((ran g c).ahead.kept_all, subst (λ (x : Seated). x.lanes ≤ vec_capacity c.self.inside.resumed) (sym c.run_local.ensures.seats.2.1.0) c.self.invariant.1, c.self.invariant.2)
+invariant_of-self g c = ((ran g c).ahead.kept_all, subst (λ (x : Seated). x.lanes ≤ vec_capacity c.self.inside.resumed) (sym c.run_local.ensures.seats.2.1.0) c.self.invariant.1, c.self.invariant.2, c.self.invariant.3)
 
 pub returns-clause-ran : goal.returns-clause-ran
 returns-clause-ran g c = λ r found.

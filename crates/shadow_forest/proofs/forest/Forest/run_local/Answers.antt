@@ -47,7 +47,7 @@ ran g c =
     (v.started, v.only, record { ahead = ahead_is i.journal i.tables i.txns.items (numbers_waiting i.waiting) i.lanes c.args.place c.args.txn v.started v.a c.self.invariant.0 c.code_of-code.result.now.nodes _ e.0 e.1 c.run_local.result c.run_local.new.self (c.code_of-code.ensures ∙ ap (λ xs. nodes_at xs c.args.txn) c.deref.ensures.value) e.2.0 e.2.1.0 e.2.1.1 })
 
 pub invariant_of-self : goal.invariant_of-self
-invariant_of-self g c = ((ran g c).2.ahead.kept_all, subst (λ (x : Seated). x.lanes ≤ vec_capacity c.self.inside.resumed) (sym c.run_local.ensures.seats.2.1.0) c.self.invariant.1, c.self.invariant.2)
+invariant_of-self g c = ((ran g c).2.ahead.kept_all, subst (λ (x : Seated). x.lanes ≤ vec_capacity c.self.inside.resumed) (sym c.run_local.ensures.seats.2.1.0) c.self.invariant.1, c.self.invariant.2, c.self.invariant.3)
 
 pub returns-clause-local : goal.returns-clause-local
 returns-clause-local g c = λ r found.

@@ -96,7 +96,7 @@ local_is g c =
     local_call i.journal i.tables i.txns.items (numbers_waiting i.waiting) i.lanes c.args.place c.args.txn c.args.self.now c.code_of-code.result.now.nodes c.state-state.result.now c.next_kind.result (call_is i.journal i.tables i.txns.items (numbers_waiting i.waiting) i.lanes c.args.place c.args.txn c.args.self.now c.code_of-code.result.now.nodes c.state-state.result.now c.next_kind.result c.self.invariant.0 v c.state-state.ensures.state (c.code_of-code.ensures ∙ ap (λ xs. nodes_at xs c.args.txn) c.deref.ensures.value) c.next_kind.ensures.kind c.next_kind.ensures.ended) c.position-position.result e.0 e.1 c.step.new.self c.in-Local.is c.position-position.ensures (seen c.args.self.now _ c.self.view_is) e.2.0 e.2.1.0 e.2.1.1
 
 pub invariant_of-self : goal.invariant_of-self
-invariant_of-self g c = ((local_is g c).kept_all, subst (λ (x : Seated). x.lanes ≤ vec_capacity c.self.inside.resumed) (sym c.step.ensures.seats.2.1.0) c.self.invariant.1, c.self.invariant.2)
+invariant_of-self g c = ((local_is g c).kept_all, subst (λ (x : Seated). x.lanes ≤ vec_capacity c.self.inside.resumed) (sym c.step.ensures.seats.2.1.0) c.self.invariant.1, c.self.invariant.2, c.self.invariant.3)
 
 pub returns-in-Local-clause-answer : goal.returns-in-Local-clause-answer
 returns-in-Local-clause-answer g c = λ r found. sym (ap step_answer ((local_is g c).result r found))
@@ -152,7 +152,7 @@ pub invariant_of-self-in-TableRead : goal.invariant_of-self-in-TableRead
 invariant_of-self-in-TableRead g c =
     let step : c.step-in-TableRead.new.self.lanes ≡ c.renew.new.lanes.lanes = ap (λ (x : Seated). x.lanes) c.step-in-TableRead.ensures.seats.2.1.0 in
     let renewed : c.renew.new.lanes.lanes ≡ c.self.inside.lanes.lanes = ap (λ (x : Seated). x.lanes) c.renew.ensures in
-    ((read_is g c).kept_all, subst (λ n. n ≤ vec_capacity c.self.inside.resumed) (sym (step ∙ renewed)) c.self.invariant.1, c.self.invariant.2)
+    ((read_is g c).kept_all, subst (λ n. n ≤ vec_capacity c.self.inside.resumed) (sym (step ∙ renewed)) c.self.invariant.1, c.self.invariant.2, c.self.invariant.3)
 
 pub returns-in-TableRead-clause-answer : goal.returns-in-TableRead-clause-answer
 returns-in-TableRead-clause-answer g c = λ r found. sym (ap step_answer ((read_is g c).result r found))
@@ -199,7 +199,7 @@ pub invariant_of-self-in-Write : goal.invariant_of-self-in-Write
 invariant_of-self-in-Write g c =
     let step : c.step-in-Write.new.self.lanes ≡ c.self.inside.lanes.lanes = ap (λ (x : Seated). x.lanes) c.step-in-Write.ensures.seats.2.1.0 in
     let renewed : c.renew_readers.new.lanes.lanes ≡ c.step-in-Write.new.self.lanes = ap (λ (x : Seated). x.lanes) c.renew_readers.ensures in
-    ((write_is g c).kept_all, subst (λ n. n ≤ vec_capacity c.self.inside.resumed) (sym (renewed ∙ step)) c.self.invariant.1, c.self.invariant.2)
+    ((write_is g c).kept_all, subst (λ n. n ≤ vec_capacity c.self.inside.resumed) (sym (renewed ∙ step)) c.self.invariant.1, c.self.invariant.2, c.self.invariant.3)
 
 pub returns-in-Write-clause-answer : goal.returns-in-Write-clause-answer
 returns-in-Write-clause-answer g c = λ r found. sym (ap step_answer ((write_is g c).result r found))

@@ -137,7 +137,7 @@ is_stepped g c =
 pub invariant_of-self : goal.invariant_of-self
 invariant_of-self g c =
     let e = c.step.ensures.seats in
-    ((is_stepped g c).kept_all, subst (λ (x : Seated). x.lanes ≤ vec_capacity c.self.inside.resumed) (sym e.2.1.0) c.self.invariant.1, c.self.invariant.2)
+    ((is_stepped g c).kept_all, subst (λ (x : Seated). x.lanes ≤ vec_capacity c.self.inside.resumed) (sym e.2.1.0) c.self.invariant.1, c.self.invariant.2, c.self.invariant.3)
 
 pub returns-in-Runnable-clause-answer : goal.returns-in-Runnable-clause-answer
 returns-in-Runnable-clause-answer g c = λ r found. sym (ap step_answer ((is_stepped g c).result r found))

@@ -47,6 +47,7 @@ invariant_of-self c =
       subst (IsForest i.journal i.tables i.txns.items (numbers_waiting i.waiting)) (sym c.store.ensures) y.all,
       subst (λ (l : Seated). l.lanes ≤ vec_capacity i.resumed) (sym c.store.ensures) c.self.invariant.1,
       c.self.invariant.2,
+      c.self.invariant.3,
     )
 
 pub returns-in-Some-slot_out-clause-answer : goal.returns-in-Some-slot_out-clause-answer
