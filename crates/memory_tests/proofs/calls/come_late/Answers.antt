@@ -1,5 +1,4 @@
 use Rattle.std.proofs.Common.{ap, sym, ◌∙◌, length}
-use Rattle.forest_model.specs.Forest.{Forest}
 use Rattle.shadow_forest.specs.View.{View}
 use Rattle.memory_tests.proofs.Jobs.{has-job, pick-same, of-program}
 use Rattle.memory_tests.proofs.calls.come_late.Goals as goal
