@@ -50,8 +50,3 @@ grown-on a b c h k = record { more = h.more ++ k.more; is = k.is ∙ ap (λ x. x
 pub three : (old one two new a b c : List ℕ) → one ≡ old ++ a → two ≡ one ++ b → new ≡ two ++ c → new ≡ old ++ (a ++ b ++ c)
 three old one two new a b c h i j =
     j ∙ ap (λ x. x ++ c) (i ∙ ap (λ x. x ++ b) h ∙ append_assoc old a b) ∙ append_assoc old (a ++ b) c
-
--- the first line is the text without transfers
-pub no-transfers : (seed : ℕ) (old out : List ℕ) → out ≡ old ++ codes "table acct 64\n" → out ≡ old ++ gen_text seed 0
-unfolding gen_text
-no-transfers seed old out h = h

@@ -1,6 +1,6 @@
 -- A bench that fits what was seen fits a turn, and fits afterwards.
-use Rattle.std.proofs.Common.{◌≡◌, ℕ, true, List, length, Option, Some, None, refl, ap, sym, ◌∙◌, subst, true≢false}
-use Rattle.std.specs.Prelude.{IfSome, option_map}
+use Rattle.std.proofs.Common.{◌≡◌, ℕ, true, List, Option, Some, None, refl, ap, sym, ◌∙◌, subst, true≢false}
+use Rattle.std.specs.Prelude.{IfSome}
 use Rattle.journal_core.specs.Journal.{is_live}
 use Rattle.journal_core.specs.declared.entry.Entry.{Entry}
 use Rattle.journal_core.proofs.Legal.{begun-live}
@@ -20,12 +20,6 @@ of_program f journal (Some x) e h = (subst (λ j. IsBegunIn j x) e h).nodes
 pub fits-job : (v : View) (b : Benched) → Fits (listed v) b → IfSome b.outside (IsOfProgram v.numbers)
 fits-job v b h = of_program v.numbers (journal_in (listed v)) b.outside (journal-listed v) h.job
 
-some_is : (m n : ℕ) → Some m ≡ Some n → n ≡ m
-some_is m n h = cc
-
-pub fits-items : (v : View) (b : Benched) → Fits (listed v) b → length v.numbers.tables ≡ length v.numbers.opening → b.items ≡ length v.numbers.tables
-fits-items v b h size = some_is (length v.numbers.opening) b.items h.items ∙ sym size
-
 begun-in : (f : Forest) (journal : List Entry) (o : Option Outside) → journal ≡ f.journal → IfSome o (IsOfRun f) → IfSome o (λ x. is_live f.journal x.number ≡ true) → IfSome o (IsBegunIn journal)
 begun-in f journal None e run live = tt
 begun-in f journal (Some x) e run live =
@@ -37,10 +31,6 @@ fits-after v w b c h grown room run live = record {
   items = items-longer (listed v) (listed w) c.items (at_most_begins (listed v) (listed w) grown) (h.items ∙ ap (λ n. Some n) (sym room));
   job = begun-in w.numbers (journal_in (listed w)) c.outside (journal-listed w) run live;
 }
-
-pub none-mapped : {A B : Type 0} (h : A → B) (o : Option A) → option_map h o ≡ None → o ≡ None
-none-mapped h None e = refl
-none-mapped h (Some x) e = cc
 
 -- where nobody is live no job was taken
 pub nobody-taken : (journal : List Entry) (o : Option Outside) → IfSome o (λ x. is_live journal x.number ≡ true) → HasEnded journal → o ≡ None

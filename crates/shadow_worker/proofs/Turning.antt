@@ -30,12 +30,12 @@ use Rattle.forest_model.proofs.Lists.{all-found}
 use Rattle.forest_model.proofs.StartedLaws.{found-number}
 use Rattle.shadow_forest.specs.View.{View, with_numbers, drain_told, gate_step_view}
 use Rattle.shadow_forest.specs.declared.bench.Job.{Job as Told}
-use Rattle.shadow_forest.specs.Bench.{Outside, told, job_in, IsOfRun, after_give}
+use Rattle.shadow_forest.specs.Bench.{Outside, told, job_in, after_give}
 use Rattle.shadow_forest.specs.Listed.{happened, listed}
 use Rattle.shadow_forest.specs.declared.kept.Item.{Item}
 use Rattle.shadow_forest.specs.declared.kept.Item.TheVariants.{Opening}
 use Rattle.shadow_forest.proofs.Picked.{pick-in}
-use Rattle.shadow_worker.specs.Turn.{given_view, taken_view}
+use Rattle.shadow_worker.specs.Turn.{given_view}
 use Rattle.shadow_worker.specs.Worked.{IsAtMostCommitted}
 
 -- the same numbers of shadows and lanes
@@ -133,20 +133,7 @@ taken-same : (f : Forest) (p : Option Row) → list_of (taken f p).opening (take
 taken-same f None = refl
 taken-same f (Some row) = refl
 
-pub taken-list : (more : Bool) (v : View) → listed (taken_view more v) ≡ listed v
-taken-list true v = taken-same v.numbers (pick v.numbers)
-taken-list false v = refl
-
 -- What is taken.
-
-pub taken-jobs : (f : Forest) (p : Option Row) (o : Option Outside) → option_map (job_in (taken f p)) o ≡ option_map (job_in f) o
-taken-jobs f None o = refl
-taken-jobs f (Some row) o = refl
-
-pub taken-runs : (f : Forest) (p : Option Row) (o : Option Outside) → IfSome o (IsOfRun f) → IfSome o (IsOfRun (taken f p))
-taken-runs f p None h = tt
-taken-runs f None (Some x) h = h
-taken-runs f (Some row) (Some x) h = record { nodes = h.nodes; run = h.run }
 
 taken-journal : (f : Forest) (p : Option Row) → (taken f p).journal ≡ f.journal
 taken-journal f None = refl
