@@ -16,4 +16,4 @@ push_reserved-requires-3-clause-continues g c =
     (c.push_reserved.ensures.entries ∙ ap (λ es. es ++ Began 1 10 c.nothing.result ∷ [])
     (c.in_ok-reserve.ensures.entries ∙ ap (λ j. j.entries) c.new-journal.ensures))
     in
-    rw (entries, c.nothing.ensures, c.new-2.ensures) (refl, sym (nothing-done _))
+    rw (entries, c.nothing.ensures, c.none.ensures) (refl, sym (nothing-done _))
