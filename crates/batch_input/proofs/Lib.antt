@@ -1,0 +1,4 @@
+pub mod Begins
+pub mod Long
+pub mod Lines
+pub mod Ends

@@ -1,0 +1,4 @@
+pub mod Input
+pub mod Taking
+pub mod Unread
+pub mod Reading

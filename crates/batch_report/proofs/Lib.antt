@@ -1,0 +1,4 @@
+pub mod Reports
+pub mod Rows
+pub mod Told
+pub mod Once
