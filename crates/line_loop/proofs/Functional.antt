@@ -14,7 +14,7 @@ use Rattle.line_loop.specs.declared.flow.Flow.{Flow}
 use Rattle.line_loop.specs.declared.flow.Flow.TheVariants.{GoOn, WorkOn, Stop}
 use Rattle.line_loop.specs.declared.ending.Ending.{Ending}
 use Rattle.line_loop.specs.declared.ending.Ending.TheVariants.{Done, Stopped, ReadFault, WriteFault, OutOfMemory, InputLimit}
-use Rattle.line_loop.proofs.Replies.{machine_after-append, replies_from-append, steps_from-append, GainsPrefix-append}
+use Rattle.line_loop.proofs.Replies.{replies_from-append, steps_from-append, GainsPrefix-append}
 
 -- the account by the definitions
 
