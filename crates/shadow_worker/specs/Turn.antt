@@ -1,4 +1,4 @@
--- What one turn does: Give where the bench has a job, a step under the gate, and Take where more is asked for.
+-- A turn as a function of the forest and the bench's job: the job comes back, a step is made under the gate, and the pick leaves if more work is wanted.
 use Rattle.std.specs.Prelude.{◌≡◌, Bool, true, false, Option, Some, None, option_map}
 use Rattle.txn_code.specs.Nodes.{nodes_of}
 use Rattle.journal_core.specs.Journal.{program_of}

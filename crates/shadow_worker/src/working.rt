@@ -36,9 +36,9 @@ pub enum Until {
     Turns(u32),
 }
 
-/// Takes turns at the forest, each as `one_turn`, and runs the jobs that it takes outside its turns, where it passes the gate first.
-/// With `AllEnded` it returns after a turn that finds the journal sealed and no transaction live, with `Turns` after so many turns,
-/// and takes no job in the last. The bench has no job before and after. Takes no memory.
+/// Works at a forest in a cell: turn by turn as `one_turn` says, and between them it runs the job that it has, once the gate lets it
+/// pass. `AllEnded` ends it behind the first turn that leaves a sealed journal in which nobody is live, `Turns` behind so many, the
+/// last of which takes no job. The bench has no job before and after. Takes no memory.
 ///
 /// It waits for its turns, so its promises hold if it returns.
 pub fn work<R: Wait, G: Gate, L: Ledger>(
