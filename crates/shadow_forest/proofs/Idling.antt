@@ -11,7 +11,7 @@ use Rattle.forest_model.specs.Forest.{Forest, Started}
 use Rattle.forest_model.specs.Pick.{pick, pick_of}
 use Rattle.forest_model.specs.Sound.{IsSound}
 use Rattle.forest_model.specs.Events.{Refusal, step}
-use Rattle.forest_model.specs.Drain.{counted, run_from, run_idle, first_ended}
+use Rattle.forest_model.specs.Drain.{run_from, run_idle, first_ended}
 use Rattle.forest_model.specs.Choose.{first_by}
 use Rattle.forest_model.proofs.Lists.{all-weaken, all-map}
 use Rattle.forest_model.proofs.PickLaws.{pick-accepted}

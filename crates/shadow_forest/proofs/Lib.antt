@@ -23,6 +23,7 @@ pub mod Guarded
 pub mod Idling
 pub mod Keeping
 pub mod Leaving
+pub mod LeftOthers
 pub mod Looks
 pub mod Marking
 pub mod Moving
@@ -49,6 +50,7 @@ pub mod Slots
 pub mod Starting
 pub mod StepWants
 pub mod Stepping
+pub mod StillFirst
 pub mod Stores
 pub mod Taking
 pub mod Wanting

@@ -5,3 +5,4 @@ pub mod Kept
 pub mod Ready
 pub mod Bench
 pub mod Listed
+pub mod Staying

@@ -1,6 +1,6 @@
 // Conflicts, and the shadows that they ask for.
-ghost use Rattle.std.specs.Prelude.{◌≡◌, ◌<◌, ◌≤◌, ◌&&◌, ◌==◌, not, suc, None, Some, length, slice_get, map, filter_map};
-ghost use Rattle.std.specs.List.{list_any};
+ghost use Rattle.std.specs.Prelude.{◌≡◌, ◌≢◌, ◌⊎◌, ◌<◌, ◌≤◌, ◌&&◌, ◌==◌, not, suc, false, None, Some, length, slice_get, map, filter_map};
+ghost use Rattle.std.specs.List.{AllByRecursion, list_any};
 ghost use Rattle.forest_model.specs.Point.{Conflict};
 ghost use Rattle.txn_interp.specs.State.{Carries};
 ghost use Rattle.shadow_state.specs.Bank.{at_place};
@@ -186,6 +186,21 @@ fn is_reader(lanes: &Lanes, place: u32, writer: u32, item: u32) -> bool
     ensures { (r : Seat) → slice_get lanes.now.seats place ≡ Some r → result ≡ (not (r.number == writer) && has_read item r) }
 {
     lanes.number(place) != writer && lanes.state(place, 0).reads().get(item).is_some()
+}
+
+/// Whether another one than the writer has read the item; with one shadow a transaction nobody asks, and it is false.
+pub(crate) fn is_read_by_others(lanes: &Lanes, writer: u32, item: u32) -> bool
+    ensures { result ≡ false → (lanes.now.most ≡ 1) ⊎ AllByRecursion (λ (r : Seat). r.number ≢ writer → has_read item r ≡ false) lanes.now.seats }
+{
+    if lanes.most() == 1 {
+        return false;
+    }
+    for place in 0..lanes.len() {
+        if is_reader(lanes, place, writer, item) {
+            return true;
+        }
+    }
+    false
 }
 
 // The transaction at a place has the shadows that it wants now.

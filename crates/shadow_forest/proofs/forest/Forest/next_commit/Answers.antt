@@ -1,15 +1,15 @@
-use Rattle.std.proofs.Common.{◌≡◌, ℕ, ◌+◌, Some, None, ap, sym, ◌∙◌, subst, arith, refl}
+use Rattle.std.proofs.Common.{◌≡◌, ℕ, ◌+◌, ◌<◌, ◌≤◌, ◌^◌, Some, None, ap, sym, ◌∙◌, subst, arith, refl}
 use Rattle.forest_model.specs.Forest.{Forest}
 use Rattle.forest_model.specs.Pick.{pick}
 use Rattle.forest_model.specs.Sound.{IsSound}
-use Rattle.forest_model.specs.Drain.{first_ended, until_commit}
+use Rattle.forest_model.specs.Drain.{run_idle, first_ended, until_commit}
 use Rattle.forest_model.specs.Stays.{Leads}
 use Rattle.forest_model.proofs.UntilLaws.{until-ended, until-over}
 use Rattle.shadow_forest.specs.Ready.{AreCarried}
 use Rattle.shadow_forest.specs.View.{View, with_numbers, drain_step_view}
-use Rattle.shadow_forest.specs.Kept.{numbers_waiting}
+use Rattle.shadow_forest.specs.Kept.{numbers_waiting, forest_of}
 use Rattle.shadow_forest.proofs.Carrying.{carried}
-use Rattle.shadow_forest.proofs.Idling.{picked, ended-first}
+use Rattle.shadow_forest.proofs.Idling.{idle-fits, picked, ended-first}
 use Rattle.shadow_forest.proofs.Drains.{commits-view, view-nothing, until_view}
 use Rattle.shadow_forest.proofs.forest.Forest.next_commit.Given.{Over}
 use Rattle.shadow_forest.proofs.forest.Forest.next_commit.Goals as goal
@@ -107,6 +107,14 @@ run_pick-requires-clause-pick g c =
     let i = c.self.inside in
     picked i.journal i.tables i.txns.items (numbers_waiting i.waiting) i.lanes c.self.invariant.0 c.loop-txn.self c.deref-in-None.result.now c.pick.result (ap (λ (v : View). v.numbers) c.self.view_is) c.deref-in-None.ensures.value c.pick.ensures
     ∙ c.in-Some-pick.is
+
+pub run_pick-requires-clause-fits : goal.run_pick-requires-clause-fits
+run_pick-requires-clause-fits g c =
+    let i = c.self.inside in
+    let numbers : forest_of i.journal i.tables i.lanes ≡ c.loop-txn.self.numbers = ap (λ (v : View). v.numbers) c.self.view_is in
+    let most : i.lanes.most ≤ 8 = subst (λ (f : Forest). f.k ≤ 8) (sym numbers) (subst (λ k. k ≤ 8) c.k.ensures.k c.k.ensures.most) in
+    let lanes : i.lanes.lanes ≤ 64 = subst (λ (f : Forest). f.lanes ≤ 64) (sym numbers) (subst (λ k. k ≤ 64) c.lanes.ensures.lanes c.lanes.ensures.many) in
+    subst (λ (f : Forest). (run_idle f).0 < 2 ^ 64) numbers (idle-fits i.journal i.tables i.txns.items (numbers_waiting i.waiting) i.lanes c.self.invariant.0 most lanes)
 
 leads : (g : Over) (c : goal.After-run_pick g) → Leads until_commit c.loop-txn.self.numbers c.run_pick.new.self.numbers c.run_pick.result
 leads g c =

@@ -75,6 +75,12 @@ run_pick-made-requires-clause-pick g c =
     picked i.journal i.tables i.txns.items (numbers_waiting i.waiting) i.lanes c.self-in-loop-row.invariant.0 c.loop-row.self c.deref.result.now c.pick.result (ap (λ (v : View). v.numbers) c.self-in-loop-row.view_is) c.deref.ensures.value c.pick.ensures
     ∙ c.in-Some.is
 
+pub run_pick-made-requires-clause-fits : goal.run_pick-made-requires-clause-fits
+run_pick-made-requires-clause-fits g c =
+    let made : c.loop-row.made + (run_idle c.loop-row.self.numbers).0 ≡ (run_idle c.args.self.now.numbers).0 = c.loop-row.invariant.made in
+    let fits : (run_idle c.args.self.now.numbers).0 < 2 ^ 64 = c.loop-row.invariant.fits in
+    omega (arith, made, fits)
+
 pub overflow_add-made : goal.overflow_add-made
 overflow_add-made g c =
     let made : c.loop-row.made + (run_idle c.loop-row.self.numbers).0 ≡ (run_idle c.args.self.now.numbers).0 = c.loop-row.invariant.made in
