@@ -84,7 +84,7 @@ module _ (journal : Recorded) (d : Tables) (kept : List Txn) (queue : List ℕ) 
 
   its_txn : IsTxn s.items new.entries n x
   its_txn = record {
-    code = h.code ∙ ap nodes_of (sym its_program);
+    code = λ live. h.code ∙ ap nodes_of (sym its_program);
     program = subst IsProgram (sym its_program) h.sound_program;
     fits = subst (λ p. reach p ≤ s.items) (sym its_program) (subst (λ m. reach program ≤ m) (sym h.old.items) h.fits);
     deadline = h.kept_deadline ∙ sym (deadline_of-begun journal.entries n deadline program unbegun);

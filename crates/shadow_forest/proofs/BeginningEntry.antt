@@ -1,7 +1,7 @@
 -- One more entry in the journal.
-use Rattle.std.proofs.Common.{◌≡◌, ℕ, ◌+◌, ◌≤◌, true, false, not, ◌&&◌, List, [], ◌∷◌, ◌++◌, length, filter, Option, Some, None, refl, ap, sym, subst, ◌∙◌, arith, append-nil}
+use Rattle.std.proofs.Common.{◌≡◌, ℕ, ◌+◌, ◌≤◌, true, false, not, ◌&&◌, ◌||◌, Bool, List, [], ◌∷◌, ◌++◌, length, filter, Option, Some, None, refl, ap, sym, subst, ◌∙◌, arith, append-nil}
 use Rattle.std.specs.List.{AllByRecursion}
-use Rattle.std.proofs.lemmas.Bool.{or_cases, or_right}
+use Rattle.std.proofs.lemmas.Bool.{and_from, and_parts, or_cases, or_right}
 use Rattle.std.proofs.lemmas.List.Elements.{filter_agree, filter_map-append}
 use Rattle.txn_runs.specs.Run.{Tables}
 use Rattle.txn_runs.specs.Bounds.{IsProgram, reach}
@@ -9,8 +9,8 @@ use Rattle.txn_code.specs.Nodes.{nodes_of}
 use Rattle.journal_core.specs.declared.entry.Entry.{Entry}
 use Rattle.journal_core.specs.declared.entry.Entry.TheVariants.{Began, Sealed, Committed, Withdrawn}
 use Rattle.journal_core.specs.Recorded.{Recorded}
-use Rattle.journal_core.specs.Journal.{has_begun, is_begin, is_begin_of, is_live, is_sealed, program_of, deadline_of, deadline_in}
-use Rattle.journal_core.proofs.Legal.{begun-live, began-push, has_begun-push, is_sealed-push, program_of-push, live-other}
+use Rattle.journal_core.specs.Journal.{has_begun, has_ended, is_begin, is_begin_of, is_end_of, is_live, is_sealed, program_of, deadline_of, deadline_in}
+use Rattle.journal_core.proofs.Legal.{begun-live, began-push, has_begun-push, has_ended-push, is_sealed-push, program_of-push, live-other}
 use Rattle.forest_model.specs.Forest.{Started, Forest, wanted, is_started}
 use Rattle.forest_model.specs.Start.{waits, numbers, number_in}
 use Rattle.forest_model.specs.Sound.{IsSound}
@@ -67,13 +67,23 @@ deadline_of-push (x ∷ journal) e t h =
     (λ here. deadline_in-begins x t _ _ here)
     (λ later. ap (deadline_in t x) (deadline_of-push journal e t later))
 
+neither : (a b : Bool) → not (a || b) ≡ true → not a ≡ true
+neither true b e = e
+neither false b e = refl
+
+-- who began, and is live behind one more entry, was live before it
+live_before : (journal : List Entry) (e : Entry) (t : ℕ) → has_begun journal t ≡ true → is_live (journal ++ e ∷ []) t ≡ true → is_live journal t ≡ true
+live_before journal e t begun live =
+    let on : not (has_ended journal t || is_end_of t e) ≡ true = subst (λ b. not b ≡ true) (has_ended-push journal e t) (and_parts _ _ live).1 in
+    and_from _ _ begun (neither (has_ended journal t) (is_end_of t e) on)
+
 -- what is kept of a transaction that began stays true
 pub has_txn_push : (items : ℕ) (journal : List Entry) (e : Entry) (t : ℕ) (o : Option Txn) → has_begun journal t ≡ true → HasTxn items journal t o → HasTxn items (journal ++ e ∷ []) t o
 has_txn_push items journal e t None begun h = h
 has_txn_push items journal e t (Some x) begun h =
     let program = sym (program_of-push journal e t begun) in
     record {
-      code = subst (λ p. x.code.nodes ≡ nodes_of p) program h.code;
+      code = λ live. subst (λ p. x.code.nodes ≡ nodes_of p) program (h.code (live_before journal e t begun live));
       program = subst IsProgram program h.program;
       fits = subst (λ p. reach p ≤ items) program h.fits;
       deadline = h.deadline ∙ sym (deadline_of-push journal e t begun);

@@ -1,4 +1,4 @@
--- What a forest keeps of the transactions that began.
+-- What a forest keeps of the transactions that are live.
 use Rattle.std.proofs.Common.{◌≡◌, ℕ, ◌-◌, ◌≤◌, true, List, length, Option, Some, None, refl, ap, sym, subst, ◌∙◌}
 use Rattle.std.specs.Prelude.{slice_get}
 use Rattle.txn_runs.specs.Run.{Tables}
@@ -20,10 +20,11 @@ pub record IsBegun (items : ℕ) (journal : List Entry) (kept : List Txn) (t : �
   pub carries : Carries (nodes_at kept t) items
   pub deadline : deadline_at kept t ≡ deadline_of journal t
 
-begun_of : (items : ℕ) (journal : List Entry) (kept : List Txn) (t : ℕ) → 1 ≤ t → t ≤ length kept → (o : Option Txn) → slice_get kept (t - 1) ≡ o → HasTxn items journal t o → IsBegun items journal kept t
-begun_of items journal kept t least most None e h = absurd h
-begun_of items journal kept t least most (Some x) e h =
-    let code : nodes_at kept t ≡ nodes_of (program_of journal t) = ap nodes_in e ∙ h.code in
+begun_of : (items : ℕ) (journal : List Entry) (kept : List Txn) (t : ℕ) → 1 ≤ t → t ≤ length kept → is_live journal t ≡ true → (o : Option Txn) → slice_get kept (t - 1) ≡ o → HasTxn items journal t o
+    → IsBegun items journal kept t
+begun_of items journal kept t least most live None e h = absurd h
+begun_of items journal kept t least most live (Some x) e h =
+    let code : nodes_at kept t ≡ nodes_of (program_of journal t) = ap nodes_in e ∙ h.code live in
     record {
       least = least;
       most = most;
@@ -32,13 +33,11 @@ begun_of items journal kept t least most (Some x) e h =
       deadline = ap deadline_in e ∙ h.deadline;
     }
 
-pub is_begun : (opening : Tables) (items : ℕ) (journal : List Entry) (kept : List Txn) (t : ℕ) → IsLegal opening journal → AreTxns items journal kept → has_begun journal t ≡ true → IsBegun items journal kept t
-is_begun opening items journal kept t legal txns begun =
-    let c : Counts journal = counts opening journal legal in
-    begun_of items journal kept t (c.positive t begun) (subst (λ n. t ≤ n) (sym txns.many) (c.bounded t begun)) (slice_get kept (t - 1)) refl (txns.each t begun)
-
 pub live_is_begun : (opening : Tables) (items : ℕ) (journal : List Entry) (kept : List Txn) (t : ℕ) → IsLegal opening journal → AreTxns items journal kept → is_live journal t ≡ true → IsBegun items journal kept t
-live_is_begun opening items journal kept t legal txns live = is_begun opening items journal kept t legal txns (begun-live journal t live)
+live_is_begun opening items journal kept t legal txns live =
+    let c : Counts journal = counts opening journal legal in
+    let begun : has_begun journal t ≡ true = begun-live journal t live in
+    begun_of items journal kept t (c.positive t begun) (subst (λ n. t ≤ n) (sym txns.many) (c.bounded t begun)) live (slice_get kept (t - 1)) refl (txns.each t begun)
 
 pub is_carried : (items : ℕ) (journal : List Entry) (kept : List Txn) (t : ℕ) → IsBegun items journal kept t → IsCarried items kept t
 is_carried items journal kept t h = record { least = h.least; most = h.most; carries = h.carries }

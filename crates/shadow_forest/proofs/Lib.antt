@@ -16,6 +16,7 @@ pub mod Ending
 pub mod Finishing
 pub mod FirstPlaces
 pub mod Firsts
+pub mod Freed
 pub mod Fronts
 pub mod Gates
 pub mod GivenBack

@@ -98,7 +98,7 @@ at_place_is journal d kept queue s at t r h there found =
 
 -- its code's nodes
 pub nodes_are : (journal : Recorded) (d : Tables) (kept : List Txn) (s : Seated) (at t : ℕ) (r : Started) (a : IsAt journal d kept s at t r) → nodes_at kept t ≡ nodes_of (program_of journal.entries t)
-nodes_are journal d kept s at t r a = ap nodes_in a.txn_there ∙ a.of_txn.code
+nodes_are journal d kept s at t r a = ap nodes_in a.txn_there ∙ a.of_txn.code a.live
 
 -- its nodes are those of a program that fits
 pub carries : (journal : Recorded) (d : Tables) (kept : List Txn) (s : Seated) (at t : ℕ) (r : Started) (a : IsAt journal d kept s at t r) → Carries (nodes_at kept t) s.items
@@ -147,7 +147,7 @@ all_coded journal d kept queue s h = go s.seats h.sound.right.live
     go [] live = tt
     go (x ∷ xs) live =
         let txn = kept_txn s.items journal.entries x.number (slice_get kept (x.number - 1)) (h.txns.each x.number (begun-live journal.entries x.number live.0)) in
-        (ap nodes_in txn.1 ∙ txn.2.code, go xs live.1)
+        (ap nodes_in txn.1 ∙ txn.2.code live.0, go xs live.1)
 
 -- the codes of all that are started are there, and fit
 pub all_carried : (journal : Recorded) (d : Tables) (kept : List Txn) (queue : List ℕ) (s : Seated) → IsForest journal d kept queue s → AreCarried s.items kept s.seats
@@ -162,7 +162,7 @@ all_carried journal d kept queue s h = go s.seats h.sound.right.live
           record {
             least = c.positive x.number begun;
             most = subst (λ n. x.number ≤ n) (sym h.txns.many) (c.bounded x.number begun);
-            carries = record { body = program_of journal.entries x.number; program = txn.2.program; fits = txn.2.fits; code = ap nodes_in txn.1 ∙ txn.2.code };
+            carries = record { body = program_of journal.entries x.number; program = txn.2.program; fits = txn.2.fits; code = ap nodes_in txn.1 ∙ txn.2.code live.0 };
           },
           go xs live.1,
         )

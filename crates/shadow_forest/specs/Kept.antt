@@ -47,9 +47,9 @@ AllStand journal d seats = AllByRecursion (λ (r : Seat). SeatStands (program_of
 abbrev pub AllNoted : Forest → List Seat → Type 0
 AllNoted f seats = AllByRecursion (λ (r : Seat). conflicts_of r ≡ wanted f (started_of r)) seats
 
--- what is kept of t: the nodes of its program, which fits so many items, and its deadline
+-- what is kept of t: the nodes of its program while it is live, which fits so many items, and its deadline
 pub record IsTxn (items : ℕ) (journal : List Entry) (t : ℕ) (x : Txn) : Type 0 where
-  pub code : x.code.nodes ≡ nodes_of (program_of journal t)
+  pub code : is_live journal t ≡ true → x.code.nodes ≡ nodes_of (program_of journal t)
   pub program : IsProgram (program_of journal t)
   pub fits : reach (program_of journal t) ≤ items
   pub deadline : x.deadline ≡ deadline_of journal t

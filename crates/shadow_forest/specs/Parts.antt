@@ -57,6 +57,10 @@ nodes_in (Some x) = x.code.nodes
 abbrev pub nodes_at : List Txn → ℕ → List Node
 nodes_at txns t = nodes_in (slice_get txns (t - 1))
 
+-- a transaction of which no code is kept any more
+abbrev pub without_code : Txn → Txn
+without_code x = record x { code = record { nodes = []; room = 0 } }
+
 -- the deadline of a transaction that is there
 abbrev pub deadline_in : Option Txn → ℕ
 deadline_in None = 0

@@ -36,7 +36,7 @@ use crate::picking::{pick, role_at};
 use crate::priority::first_ended;
 use crate::rooms::{free_room, take_room};
 use crate::settling::{is_read_by_others, renew, renew_around, renew_readers, wanted_at};
-use crate::txn::{Txn, code_of, deadline_of};
+use crate::txn::{Txn, code_of, deadline_of, free_code};
 use block_rule::{Role, Row, Standing, status};
 use forest_model::Did;
 use item_table::Table;
@@ -62,6 +62,7 @@ pub struct Forest {
     alloc: Global,
     journal: Journal,
     tables: Table,
+    // what is kept of each, number 1 first; of who has ended, no code
     txns: Vec<Txn>,
     // for what each transaction emits, number 1 first; who has ended has none
     rooms: Vec<EmitRoom>,
@@ -826,6 +827,7 @@ impl Forest {
         self.lanes.remove(txn);
         self.starts = start_waiting(&mut self.lanes, &mut self.waiting, &self.txns);
         renew_around(&mut self.lanes, &self.txns, txn, &self.resumed);
+        free_code(&mut self.txns, txn, self.alloc);
     }
 
     // Withdraws a live transaction.
@@ -841,6 +843,7 @@ impl Forest {
         self.waiting.remove(txn, deadline_of(&self.txns, txn));
         self.starts = start_waiting(&mut self.lanes, &mut self.waiting, &self.txns);
         renew_around(&mut self.lanes, &self.txns, txn, &self.resumed);
+        free_code(&mut self.txns, txn, self.alloc);
     }
 }
 

@@ -1,4 +1,4 @@
-use Rattle.std.proofs.Common.{◌≡◌, ◌≤◌, ◌-◌, true, arith, [], ◌∷◌, ◌++◌, filter_map, map, length, refl, ap, sym, subst, ◌∙◌}
+use Rattle.std.proofs.Common.{◌≡◌, ◌≤◌, ◌-◌, true, false, arith, eq-eqb, [], ◌∷◌, ◌++◌, filter_map, map, length, refl, ap, sym, subst, ◌∙◌}
 use Rattle.std.specs.Prelude.{slice_get, slice_set}
 use Rattle.std.specs.Vec.{vec_capacity}
 use Rattle.txn_runs.specs.Bounds.{emits_max}
@@ -6,7 +6,7 @@ use Rattle.txn_runs.specs.Serial.{outcome_of, over}
 use Rattle.journal_core.specs.Recorded.{Recorded}
 use Rattle.journal_core.specs.declared.entry.Entry.TheVariants.{Committed}
 use Rattle.journal_core.specs.Journal.{is_live, program_of}
-use Rattle.journal_core.proofs.Legal.{counts}
+use Rattle.journal_core.proofs.Legal.{counts, live-ended}
 use Rattle.forest_model.specs.Runs.{is_done as is_done_of}
 use Rattle.forest_model.specs.Forest.{Forest, find_started, is_ended}
 use Rattle.forest_model.specs.Start.{next_to_start}
@@ -23,6 +23,7 @@ use Rattle.shadow_forest.proofs.Around.{IsAfterEnd, around_is_all}
 use Rattle.shadow_forest.proofs.Starting.{IsUnstarted, IsFilled, queue_carried, queue_apart, next_is, filled_keeps}
 use Rattle.shadow_forest.proofs.Refilling.{IsRefilled, refilled_keeps, refilled_forest, refilled_lanes}
 use Rattle.shadow_forest.proofs.RoomLaws.{room_there, rooms_committed, emits_fit}
+use Rattle.shadow_forest.proofs.Freed.{freed-forest, freed-queued}
 use Rattle.shadow_forest.proofs.SeatPlaces.{state-at}
 use Rattle.shadow_forest.proofs.Placing.{all_carried}
 use Rattle.shadow_forest.proofs.Finishing.{IsEndAt, end_at, outcome_from, IsCutStep, done_step, undone_step, IsWritten, after_end, written_forest, written_keeps, written_back, written_settles, written_lanes, told_view, same_ending}
@@ -237,6 +238,19 @@ refilled c after fill =
           ∙ ap (λ seats. record lanes { seats = seats }) (around_is_all c.args.txn (map resumed_pair x.resumed.items) x.txns.items c.self.inside.lanes lanes after);
     }
 
+-- its code is there
+
+pub free_code-requires-clause-least : goal.free_code-requires-clause-least
+free_code-requires-clause-least c = (there (goal.at.free_code-requires-clause-least c).After-self).0
+
+pub free_code-requires-clause-most : goal.free_code-requires-clause-most
+free_code-requires-clause-most c =
+    let most = (there (goal.at.free_code-requires-clause-most c).After-self).1 in
+    let rooms = c.self.invariant.3.many in
+    let txns = c.self.invariant.0.txns.many in
+    let same = ap length (same_txns (goal.at.free_code-requires-clause-most c).After-deref-2) in
+    omega (arith, most, rooms, txns, same)
+
 pub invariant_of-self : goal.invariant_of-self
 invariant_of-self c =
     let i = c.self.inside in
@@ -250,14 +264,19 @@ invariant_of-self c =
     let a = (goal.at.invariant_of-self c).After-deref-2 in
     let u = unstarted a e st in
     let fill = filled (goal.at.invariant_of-self c).After-deref-3 in
-    let re = refilled c (after_end i.journal i.tables i.txns.items (numbers_waiting i.waiting) i.lanes c.args.place c.args.txn c.self.invariant.0 e x.tables x.lanes (map resumed_pair x.resumed.items) (cut_step a e st) j left (written a e st) x.txns.items w.result w.new.lanes fill.seats_are) fill in
+    let re = refilled (goal.at.invariant_of-self c).After-renew_around (after_end i.journal i.tables i.txns.items (numbers_waiting i.waiting) i.lanes c.args.place c.args.txn c.self.invariant.0 e x.tables x.lanes (map resumed_pair x.resumed.items) (cut_step a e st) j left (written a e st) x.txns.items w.result w.new.lanes fill.seats_are) fill in
     let lanes : c.renew_around.new.lanes.lanes ≡ i.lanes.lanes =
     refilled_lanes j x.tables x.txns.items (numbers_waiting x.waiting) left before w.result (numbers_waiting w.new.waiting) w.new.lanes c.renew_around.new.lanes u re
     ∙ written_lanes i.journal i.tables i.txns.items (numbers_waiting i.waiting) i.lanes c.args.place c.args.txn c.self.invariant.0 e x.tables x.lanes (map resumed_pair x.resumed.items) (cut_step a e st) j left (written a e st)
+    in
+    let kept = refilled_keeps j x.tables x.txns.items (numbers_waiting x.waiting) left before w.result (numbers_waiting w.new.waiting) w.new.lanes c.renew_around.new.lanes u re in
+    let some = (there (goal.at.invariant_of-self c).After-self).0 in
+    let gone_now : is_live j.entries c.args.txn ≡ false =
+    subst (λ es. is_live es c.args.txn ≡ false) (sym c.push_reserved.ensures.entries) (live-ended x.journal.entries (Committed c.args.txn c.outcome-outcome.result) c.args.txn (eq-eqb c.args.txn c.args.txn refl))
     in (
-      refilled_keeps j x.tables x.txns.items (numbers_waiting x.waiting) left before w.result (numbers_waiting w.new.waiting) w.new.lanes c.renew_around.new.lanes u re,
+      rw c.free_code.ensures (freed-forest j x.tables x.txns.items (numbers_waiting w.new.waiting) c.renew_around.new.lanes c.args.txn (counts j.opening j.entries kept.sound.right.legal) some gone_now kept),
       rw (lanes, same_room a) c.self.invariant.1,
-      subst (λ xs. AreQueued xs w.new.waiting) c.deref-2.ensures.value w.ensures.queued,
+      rw c.free_code.ensures (freed-queued (c.args.txn - 1) x.txns.items w.new.waiting (subst (λ xs. AreQueued xs w.new.waiting) c.deref-2.ensures.value w.ensures.queued)),
       rw (c.push_reserved.ensures.entries, same_journal a, same_rooms a)
           (rooms_committed i.journal.entries i.rooms.items c.args.txn c.outcome-outcome.result c.self.invariant.3 (there (goal.at.invariant_of-self c).After-self).0 (counts i.journal.opening i.journal.entries c.self.invariant.0.sound.right.legal)),
     )
@@ -280,7 +299,7 @@ returns c = λ r found.
     let same : started_of e.seat ≡ r = same_ending i.journal i.tables i.lanes c.args.place c.args.txn e r (ap (λ (y : Forest). find_started y.started c.args.txn) v ∙ found) in
     let step = cut_step a e st in
     let is = written a e st in
-    let re = refilled c (after_end i.journal i.tables i.txns.items (numbers_waiting i.waiting) i.lanes c.args.place c.args.txn c.self.invariant.0 e x.tables x.lanes (map resumed_pair x.resumed.items) step j left is x.txns.items w.result w.new.lanes fill.seats_are) fill in
+    let re = refilled (goal.at.returns c).After-renew_around (after_end i.journal i.tables i.txns.items (numbers_waiting i.waiting) i.lanes c.args.place c.args.txn c.self.invariant.0 e x.tables x.lanes (map resumed_pair x.resumed.items) step j left is x.txns.items w.result w.new.lanes fill.seats_are) fill in
     let now : forest_of j x.tables c.renew_around.new.lanes ≡ committed f r =
     refilled_forest j x.tables x.txns.items (numbers_waiting x.waiting) left before w.result (numbers_waiting w.new.waiting) w.new.lanes c.renew_around.new.lanes u re
     ∙ written_settles i.journal i.tables i.txns.items (numbers_waiting i.waiting) i.lanes c.args.place c.args.txn c.self.invariant.0 e x.tables x.lanes (map resumed_pair x.resumed.items) step j left is

@@ -1,4 +1,4 @@
-use Rattle.std.proofs.Common.{◌≡◌, ◌≤◌, ◌==◌, true, false, not, [], filter, map, length, ap, sym, subst, ◌∙◌}
+use Rattle.std.proofs.Common.{◌≡◌, ◌≤◌, ◌-◌, ◌==◌, true, false, not, [], filter, map, length, refl, ap, sym, subst, ◌∙◌, arith, eq-eqb}
 use Rattle.journal_core.specs.declared.entry.Entry.TheVariants.{Withdrawn}
 use Rattle.journal_core.specs.Journal.{is_live, is_sealed}
 use Rattle.forest_model.specs.Forest.{Forest}
@@ -15,8 +15,9 @@ use Rattle.shadow_forest.proofs.Around.{IsAfterEnd, around_is_all}
 use Rattle.shadow_forest.proofs.EndedSeats.{noted_seats, same_each}
 use Rattle.shadow_forest.proofs.Starting.{IsUnstarted, IsFilled, queue_carried, queue_apart, next_is, filled_keeps}
 use Rattle.shadow_forest.proofs.Refilling.{IsRefilled, refilled_keeps, refilled_forest, refilled_lanes}
-use Rattle.journal_core.proofs.Legal.{begun-live, counts}
-use Rattle.shadow_forest.proofs.Carrying.{begun-carried}
+use Rattle.journal_core.proofs.Legal.{counts, live-ended}
+use Rattle.shadow_forest.proofs.Carrying.{live-carried}
+use Rattle.shadow_forest.proofs.Freed.{freed-forest, freed-queued}
 use Rattle.shadow_forest.proofs.Queue.{numbers-less, queued-less}
 use Rattle.shadow_forest.proofs.BeginningEntry.{is_pushed}
 use Rattle.shadow_forest.proofs.RoomLaws.{room_there, rooms_withdrawn}
@@ -64,13 +65,13 @@ pub deadline_of-requires-clause-least : goal.deadline_of-requires-clause-least
 deadline_of-requires-clause-least c =
     let i = c.self.inside in
     let live : is_live i.journal.entries c.args.txn ≡ true = ap (λ (v : View). is_live v.numbers.journal c.args.txn) c.self.view_is ∙ c.requires.live in
-    (begun-carried i.journal i.tables i.txns.items (numbers_waiting i.waiting) i.lanes c.self.invariant.0 c.args.txn (begun-live i.journal.entries c.args.txn live)).least
+    (live-carried i.journal i.tables i.txns.items (numbers_waiting i.waiting) i.lanes c.self.invariant.0 c.args.txn live).least
 
 pub deadline_of-requires-clause-most : goal.deadline_of-requires-clause-most
 deadline_of-requires-clause-most c =
     let i = c.self.inside in
     let live : is_live i.journal.entries c.args.txn ≡ true = ap (λ (v : View). is_live v.numbers.journal c.args.txn) c.self.view_is ∙ c.requires.live in
-    rw c.deref.ensures.value (begun-carried i.journal i.tables i.txns.items (numbers_waiting i.waiting) i.lanes c.self.invariant.0 c.args.txn (begun-live i.journal.entries c.args.txn live)).most
+    rw c.deref.ensures.value (live-carried i.journal i.tables i.txns.items (numbers_waiting i.waiting) i.lanes c.self.invariant.0 c.args.txn live).most
 
 pub start_waiting-self-inside-requires-clause-carried : goal.start_waiting-self-inside-requires-clause-carried
 start_waiting-self-inside-requires-clause-carried c =
@@ -137,20 +138,35 @@ refilled c fill =
           ∙ ap (λ seats. record lanes { seats = seats }) (around_is_all c.args.txn (map resumed_pair c.clear.new.self.items) i.txns.items i.lanes lanes (after c fill));
     }
 
+-- its code is there
+
+pub free_code-requires-clause-least : goal.free_code-requires-clause-least
+free_code-requires-clause-least c = (there (goal.at.free_code-requires-clause-least c).After-self).0
+
+pub free_code-requires-clause-most : goal.free_code-requires-clause-most
+free_code-requires-clause-most c =
+    let most = (there (goal.at.free_code-requires-clause-most c).After-self).1 in
+    let rooms = c.self.invariant.3.many in
+    let txns = c.self.invariant.0.txns.many in
+    omega (arith, most, rooms, txns)
+
 pub invariant_of-self : goal.invariant_of-self
 invariant_of-self c =
     let i = c.self.inside in
     let j = c.push_reserved.new.self in
     let before = map started_of i.lanes.seats in
     let w = c.start_waiting-self-inside in
-    let re = refilled c (filled (goal.at.invariant_of-self c).After-deref-3) in
+    let re = refilled (goal.at.invariant_of-self c).After-renew_around (filled (goal.at.invariant_of-self c).After-deref-3) in
     let u = unstarted (goal.at.invariant_of-self c).After-deref-2 in
     let lanes : c.renew_around.new.lanes.lanes ≡ i.lanes.lanes =
     refilled_lanes j i.tables i.txns.items (numbers_waiting c.remove-2.new.self) c.remove.new.self before w.result (numbers_waiting w.new.waiting) w.new.lanes c.renew_around.new.lanes u re ∙ ap (λ (x : Seated). x.lanes) c.remove.ensures
-    in (
-      refilled_keeps j i.tables i.txns.items (numbers_waiting c.remove-2.new.self) c.remove.new.self before w.result (numbers_waiting w.new.waiting) w.new.lanes c.renew_around.new.lanes u re,
+    in
+    let kept = refilled_keeps j i.tables i.txns.items (numbers_waiting c.remove-2.new.self) c.remove.new.self before w.result (numbers_waiting w.new.waiting) w.new.lanes c.renew_around.new.lanes u re in
+    let some = (there (goal.at.invariant_of-self c).After-self).0 in
+    let gone_now : is_live j.entries c.args.txn ≡ false = subst (λ es. is_live es c.args.txn ≡ false) (sym c.push_reserved.ensures.entries) (live-ended i.journal.entries (Withdrawn c.args.txn) c.args.txn (eq-eqb c.args.txn c.args.txn refl)) in (
+      rw c.free_code.ensures (freed-forest j i.tables i.txns.items (numbers_waiting w.new.waiting) c.renew_around.new.lanes c.args.txn (counts j.opening j.entries kept.sound.right.legal) some gone_now kept),
       rw (lanes, c.clear.ensures.capacity) c.self.invariant.1,
-      subst (λ xs. AreQueued xs w.new.waiting) c.deref-2.ensures.value w.ensures.queued,
+      rw c.free_code.ensures (freed-queued (c.args.txn - 1) i.txns.items w.new.waiting (subst (λ xs. AreQueued xs w.new.waiting) c.deref-2.ensures.value w.ensures.queued)),
       rw (c.push_reserved.ensures.entries, c.free_room.ensures)
           (rooms_withdrawn i.journal.entries i.rooms.items c.args.txn c.self.invariant.3 (there (goal.at.invariant_of-self c).After-self).0 (counts i.journal.opening i.journal.entries c.self.invariant.0.sound.right.legal)),
     )
@@ -164,7 +180,7 @@ returns c =
     let before = map started_of i.lanes.seats in
     let w = c.start_waiting-self-inside in
     let fill = filled (goal.at.returns c).After-deref-3 in
-    let re = refilled c fill in
+    let re = refilled (goal.at.returns c).After-renew_around fill in
     let a = (goal.at.returns c).After-deref-2 in
     let u = unstarted a in
     let gone_is : forest_of j i.tables c.remove.new.self ≡ gone f t =
@@ -176,7 +192,7 @@ returns c =
     refilled_forest j i.tables i.txns.items (numbers_waiting c.remove-2.new.self) c.remove.new.self before w.result (numbers_waiting w.new.waiting) w.new.lanes c.renew_around.new.lanes u re ∙ ap (λ g. settle before (start_waiting g)) gone_is
     in
     let who : w.result ≡ next_to_start (gone f t) = fill.next ∙ next_is j i.tables i.txns.items (numbers_waiting c.remove-2.new.self) c.remove.new.self before u ∙ ap next_to_start gone_is in
-    let told : map resumed_pair c.clear.new.self.items ≡ [] = none_back c in
+    let told : map resumed_pair c.clear.new.self.items ≡ [] = none_back (goal.at.returns c).After-renew_around in
     let view : withdraw_view c.args.self.now t ≡ record { numbers = withdrawn f t; resumed = []; starts = next_to_start (gone f t) } =
     withdraw_view_is c.args.self.now t c.requires.live c.requires.open ∙ ap (λ (v : View). record { numbers = withdrawn v.numbers t; resumed = []; starts = next_to_start (gone v.numbers t) }) (sym c.self.view_is)
     in
