@@ -78,6 +78,10 @@ ghost use Rattle.forest_model.specs.Point.{point as point_of};
 fn point_before(reader: &State, writes: &WriteSet, next: Option<u32>) -> Option<u32>
     ensures { result ≡ point_with next reader.now.position writes.now (point_of reader.now.log.reads writes.now) }
 {
+    // most write nothing for a while, and then no read need be looked at
+    if writes.len() == 0 {
+        return None;
+    }
     match (point(reader.reads(), writes), next) {
         (None, Some(item)) => {
             if writes.get(item).is_some() {
