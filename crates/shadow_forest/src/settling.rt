@@ -1,5 +1,5 @@
 // Conflicts, and the shadows that they ask for.
-ghost use Rattle.std.specs.Prelude.{◌≡◌, ◌≢◌, ◌⊎◌, ◌<◌, ◌≤◌, ◌&&◌, ◌==◌, not, suc, false, None, Some, length, slice_get, map, filter_map};
+ghost use Rattle.std.specs.Prelude.{◌≡◌, ◌≢◌, ◌⊎◌, ◌<◌, ◌≤◌, ◌&&◌, ◌==◌, not, suc, [], false, None, Some, length, slice_get, map, filter_map};
 ghost use Rattle.std.specs.List.{AllByRecursion, list_any};
 ghost use Rattle.forest_model.specs.Point.{Conflict};
 ghost use Rattle.txn_interp.specs.State.{Carries};
@@ -29,25 +29,27 @@ pub(crate) fn wanted_at(lanes: &Lanes, place: u32, next: Option<u32>) -> ArrayVe
     if lanes.most() == 1 {
         return ArrayVec::new();
     }
-    let points = points_at(lanes, place, next);
+    let mut points = ArrayVec::new();
+    note_points(lanes, place, next, &mut points);
     wanted(points.as_slice(), lanes.most())
 }
 
-fn points_at(lanes: &Lanes, place: u32, next: Option<u32>) -> ArrayVec<(u32, u32), 64>
-    requires { place < length lanes.now.seats }
+// Lays the points of the transaction at a place against all others into a list, which is empty before. A list that was answered would be
+// copied, and is long.
+fn note_points(lanes: &Lanes, place: u32, next: Option<u32>, points: &mut ArrayVec<(u32, u32), 64>)
+    requires place { place < length lanes.now.seats }
+    requires empty { points.old.items ≡ [] }
     ensures limits { AreSeats lanes.now }
-    ensures points { (r : Seat) → slice_get lanes.now.seats place ≡ Some r → result.items ≡ filter_map (conflict_between next r) lanes.now.seats }
+    ensures points { (r : Seat) → slice_get lanes.now.seats place ≡ Some r → points.new.items ≡ filter_map (conflict_between next r) lanes.now.seats }
 {
     let number = lanes.number(place);
     let reader = lanes.state(place, 0);
-    let mut points = ArrayVec::new();
     for other in 0..lanes.len() {
         match conflict(lanes, other, number, reader, next) {
             None => {}
             Some(pair) => points.push(pair),
         }
     }
-    points
 }
 
 // The conflict of a transaction of this number, whose optimistic state this is, with the one at a place.

@@ -1,7 +1,7 @@
 use Rattle.std.proofs.Common.{◌≡◌, ◌≤◌, Some, length, slice_get, filter_map, take}
 use Rattle.shadow_lanes.specs.Seats.{Seat}
 use Rattle.shadow_forest.specs.Parts.{conflict_between}
-use Rattle.shadow_forest.proofs.settling.points_at.Given as goal
+use Rattle.shadow_forest.proofs.settling.note_points.Given as goal
 
 abbrev pub invariant-loop-other : goal.invariant-loop-other
 invariant-loop-other l = record {

@@ -3,11 +3,11 @@ use Rattle.std.proofs.lemmas.List.{take_all, length_push}
 use Rattle.shadow_forest.specs.Parts.{conflict_between}
 use Rattle.shadow_forest.proofs.Places.{slice_get-some, filter_map_more-none, filter_map_more-some}
 use Rattle.shadow_forest.proofs.SeatPlaces.{number-at, state-at}
-use Rattle.shadow_forest.proofs.settling.points_at.Goals as goal
-use Rattle.shadow_forest.proofs.settling.points_at.Goals.{in-None, in-Some}
+use Rattle.shadow_forest.proofs.settling.note_points.Goals as goal
+use Rattle.shadow_forest.proofs.settling.note_points.Goals.{in-None, in-Some}
 
 pub loop-other-init : goal.loop-other-init
-loop-other-init c = record { points = λ r is. c.new-points.ensures; few = omega (arith, ap length c.new-points.ensures) }
+loop-other-init c = record { points = λ r is. c.requires.empty; few = omega (arith, ap length c.requires.empty) }
 
 pub push-requires : goal.push-requires
 push-requires c = let few = c.len-other-end.ensures.seats in (omega arith, omega (arith, c.loop-other.invariant.few, c.loop-other-test.true, c.len-other-end.ensures.len, few.few, few.many))
