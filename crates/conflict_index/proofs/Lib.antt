@@ -1,0 +1,11 @@
+pub mod LaneLists
+pub mod Orders
+pub mod ItemLists
+pub mod Views
+pub mod Reading
+pub mod Writing
+pub mod Forgetting
+pub mod Opening
+pub mod MaskLaws
+pub mod Changes
+pub mod Sweeps
