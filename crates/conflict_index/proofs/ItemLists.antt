@@ -1,11 +1,10 @@
 -- The lists of a lane as its items make them: one item more, or none at all.
-use Rattle.std.proofs.Common.{◌≡◌, ◌≢◌, ℕ, zero, suc, ◌+◌, ◌<◌, ◌≤◌, Bool, true, false, cond, nat_lt, [], ◌∷◌, None, refl, sym, ap, ◌∙◌, arith, ◌⊎◌, inl, inr}
-use Rattle.std.specs.List.{AllByRecursion}
+use Rattle.std.proofs.Common.{◌≡◌, ◌≢◌, ℕ, zero, suc, ◌+◌, ◌<◌, ◌≤◌, Bool, true, false, cond, ◌||◌, nat_eq, nat_lt, List, [], ◌∷◌, None, refl, sym, ap, ◌∙◌, arith, ◌⊎◌, inl, inr}
 use Rattle.std.proofs.lemmas.Bool.{cases_eq, eq-eqb, ne_eqb, lt-ltb, le-ltb}
-use Rattle.conflict_index.specs.Index.{Read, is_among, is_sooner, put_in_order}
+use Rattle.conflict_index.specs.Index.{Read, is_among, is_read, is_sooner, put_in_order}
 use Rattle.conflict_index.specs.Kept.{reads_of, writes_of}
 use Rattle.conflict_index.proofs.LaneLists.{least_hit, OneItem, behind, reads-same, writes-same}
-use Rattle.conflict_index.proofs.Orders.{put-put, all-put}
+use Rattle.conflict_index.proofs.Orders.{put-put}
 
 -- no item of so many from this one on
 pub record NoItem (hit : ℕ → Bool) (item many : ℕ) : Type 0 where
@@ -109,16 +108,43 @@ among-writes hit i item (suc many) g l = at (λ p q. among-writes hit i (suc ite
     at rest-of (inl e) = rw (sym e) (here (hit i))
     at rest-of (inr n) = go (hit item) n (rest-of (omega arith) (omega arith))
 
--- where no read is of the item, it was not read
-pub unread : (hit : ℕ → Bool) (position : ℕ → ℕ) (k item many : ℕ) → item ≤ k → k < item + many → AllByRecursion (λ (r : Read). r.1 ≢ k) (reads_of hit position item many) → hit k ≡ false
-unread hit position k item zero g l h = absurd (omega arith)
-unread hit position k item (suc many) g l h = at (λ p q r. unread hit position k (suc item) many p q r) (cases_eq item k) (hit item) refl
+-- what is put into the reads is of its item
+is-read-put : (before : Read → Read → Bool) (x : Read) (xs : List Read) (i : ℕ) → is_read (put_in_order before x xs) i ≡ (nat_eq i x.1 || is_read xs i)
+is-read-put before x [] i = refl
+is-read-put before x (y ∷ ys) i = go (before y x) (is-read-put before x ys i)
   where
-    rest : (t : Bool) → hit item ≡ t → AllByRecursion (λ (r : Read). r.1 ≢ k) (reads_of hit position (suc item) many)
-    rest true e = (all-put (λ (r : Read). r.1 ≢ k) is_sooner (position item, item) (reads_of hit position (suc item) many) (rw e at h)).1
-    rest false e = rw e at h
+    swap : (s t u : Bool) → (s || (t || u)) ≡ (t || (s || u))
+    swap true true u = refl
+    swap true false u = refl
+    swap false t u = refl
 
-    at : (suc item ≤ k → k < suc item + many → AllByRecursion (λ (r : Read). r.1 ≢ k) (reads_of hit position (suc item) many) → hit k ≡ false) → (item ≡ k) ⊎ (item ≢ k) → (t : Bool) → hit item ≡ t → hit k ≡ false
-    at rest-of (inl q) true e = absurd ((all-put (λ (r : Read). r.1 ≢ k) is_sooner (position item, item) (reads_of hit position (suc item) many) (rw e at h)).0 q)
-    at rest-of (inl q) false e = ap hit (sym q) ∙ e
-    at rest-of (inr n) t e = rest-of (omega arith) (omega arith) (rest t e)
+    go : (t : Bool) → is_read (put_in_order before x ys) i ≡ (nat_eq i x.1 || is_read ys i) → is_read (cond t (y ∷ put_in_order before x ys) (x ∷ y ∷ ys)) i ≡ (nat_eq i x.1 || (nat_eq i y.1 || is_read ys i))
+    go true h = ap (λ t. nat_eq i y.1 || t) h ∙ swap (nat_eq i y.1) (nat_eq i x.1) (is_read ys i)
+    go false h = refl
+
+-- no read is of an item that was passed
+read-passed : (hit : ℕ → Bool) (position : ℕ → ℕ) (i item many : ℕ) → i < item → is_read (reads_of hit position item many) i ≡ false
+read-passed hit position i item zero l = refl
+read-passed hit position i item (suc many) l = go (hit item) (read-passed hit position i (suc item) many (omega arith))
+  where
+    go : (t : Bool) → is_read (reads_of hit position (suc item) many) i ≡ false → is_read (cond t (put_in_order is_sooner (position item, item) (reads_of hit position (suc item) many)) (reads_of hit position (suc item) many)) i ≡ false
+    go true h = is-read-put is_sooner (position item, item) (reads_of hit position (suc item) many) i ∙ rw (ne_eqb i item (omega arith)) h
+    go false h = h
+
+-- one of the reads is of an item where it was read
+pub among-reads : (hit : ℕ → Bool) (position : ℕ → ℕ) (i item many : ℕ) → item ≤ i → i < item + many → is_read (reads_of hit position item many) i ≡ hit i
+among-reads hit position i item zero g l = absurd (omega arith)
+among-reads hit position i item (suc many) g l = at (λ p q. among-reads hit position i (suc item) many p q) (cases_eq i item)
+  where
+    here : (t : Bool) → is_read (cond t (put_in_order is_sooner (position i, i) (reads_of hit position (suc i) many)) (reads_of hit position (suc i) many)) i ≡ t
+    here true = is-read-put is_sooner (position i, i) (reads_of hit position (suc i) many) i ∙ rw (eq-eqb i i refl) refl
+    here false = read-passed hit position i (suc i) many (omega arith)
+
+    go : (t : Bool) → i ≢ item → is_read (reads_of hit position (suc item) many) i ≡ hit i → is_read (cond t (put_in_order is_sooner (position item, item) (reads_of hit position (suc item) many)) (reads_of hit position (suc item) many)) i ≡ hit i
+    go true n h = is-read-put is_sooner (position item, item) (reads_of hit position (suc item) many) i ∙ rw (ne_eqb i item n) h
+    go false n h = h
+
+    at : (suc item ≤ i → i < suc item + many → is_read (reads_of hit position (suc item) many) i ≡ hit i) → (i ≡ item) ⊎ (i ≢ item)
+        → is_read (cond (hit item) (put_in_order is_sooner (position item, item) (reads_of hit position (suc item) many)) (reads_of hit position (suc item) many)) i ≡ hit i
+    at rest-of (inl e) = rw (sym e) (here (hit i))
+    at rest-of (inr n) = go (hit item) n (rest-of (omega arith) (omega arith))

@@ -1,8 +1,9 @@
 -- What is put in order into a list.
-use Rattle.std.proofs.Common.{◌≡◌, ◌≢◌, ℕ, Bool, true, false, not, cond, ◌&&◌, ◌||◌, ◌==◌, nat_lt, List, [], ◌∷◌, ◌++◌, refl, ap, arith}
+use Rattle.std.proofs.Common.{◌≡◌, ◌≢◌, ℕ, Bool, true, false, not, cond, ◌&&◌, ◌||◌, ◌==◌, nat_lt, List, [], ◌∷◌, ◌++◌, refl, sym, ap, ◌∙◌, arith}
 use Rattle.std.specs.List.{AllByRecursion}
+use Rattle.std.proofs.lemmas.Bool.{ne_eqb}
 use Rattle.std.proofs.lemmas.Bool.Decides.{nat_tests}
-use Rattle.conflict_index.specs.Index.{Read, is_sooner, put_in_order}
+use Rattle.conflict_index.specs.Index.{Read, Lane, is_read, is_sooner, put_in_order, with_read}
 
 -- of two reads of different items one is sooner
 sooner-one : (p i q j : ℕ) → i ≢ j → (nat_lt p q || (p == q && nat_lt i j)) ≡ not (nat_lt q p || (q == p && nat_lt j i))
@@ -43,15 +44,17 @@ put-put a b (y ∷ ys) n = go (is_sooner y a) (is_sooner y b) refl refl (put-put
     go false false e f h = rw (e, f) (both (is_sooner a b) (is_sooner b a) one)
 
 -- what comes after all of a list is put behind it
-pub put-last : {X : Type 0} (before : X → X → Bool) (x : X) (xs : List X) → AllByRecursion (λ y. before y x ≡ true) xs → put_in_order before x xs ≡ xs ++ x ∷ []
-put-last before x [] h = refl
-put-last before x (y ∷ ys) h = rw h.0 (ap (λ l. y ∷ l) (put-last before x ys h.1))
+put-last : {X : Type 0} (P : X → Type 0) (before : X → X → Bool) (x : X) (xs : List X) → AllByRecursion (λ y. P y × (before y x ≡ true)) xs → put_in_order before x xs ≡ xs ++ x ∷ []
+put-last P before x [] h = refl
+put-last P before x (y ∷ ys) h = rw h.0.1 (ap (λ l. y ∷ l) (put-last P before x ys h.1))
 
--- what holds of all of the list holds of the one that was put in, and of the others
-pub all-put : {X : Type 0} (P : X → Type 0) (before : X → X → Bool) (x : X) (xs : List X) → AllByRecursion P (put_in_order before x xs) → P x × AllByRecursion P xs
-all-put P before x [] h = h
-all-put P before x (y ∷ ys) h = go (λ g. all-put P before x ys g) (before y x) h
-  where
-    go : (AllByRecursion P (put_in_order before x ys) → P x × AllByRecursion P ys) → (t : Bool) → AllByRecursion P (cond t (y ∷ put_in_order before x ys) (x ∷ y ∷ ys)) → P x × AllByRecursion P (y ∷ ys)
-    go rest true g = let r = rest g.1 in (r.0, (g.0, r.1))
-    go rest false g = g
+-- where all reads are of other items, none is of this one
+none-of : (Q : Read → Type 0) (item : ℕ) (xs : List Read) → AllByRecursion (λ r. (r.1 ≢ item) × Q r) xs → is_read xs item ≡ false
+none-of Q item [] h = refl
+none-of Q item (y ∷ ys) h = rw (ne_eqb item y.1 (λ e. h.0.0 (sym e))) (none-of Q item ys h.1)
+
+-- a read of a new item that comes after all others is the last one
+pub read-last : (lane : Lane) (read : Read) → AllByRecursion (λ r. (r.1 ≢ read.1) × (is_sooner r read ≡ true)) lane.reads → (with_read lane read).reads ≡ lane.reads ++ read ∷ []
+read-last lane read h =
+    ap (λ t. cond t lane.reads (put_in_order is_sooner read lane.reads)) (none-of (λ r. is_sooner r read ≡ true) read.1 lane.reads h)
+    ∙ put-last (λ r. r.1 ≢ read.1) is_sooner read lane.reads h

@@ -1,18 +1,18 @@
 -- A read more: the lists, the entries and the marks after it.
-use Rattle.std.proofs.Common.{◌≡◌, ◌≢◌, ℕ, ◌+◌, ◌*◌, ◌^◌, ◌<◌, ◌≤◌, Bool, true, false, cond, ◌&&◌, ◌||◌, ◌==◌, List, [], ◌∷◌, ◌++◌, map, length, get_or, set, length-set, subst, Option, Some, None, refl, sym, ap, ◌∙◌, arith, ◌⊎◌, inl, inr, ◌↔◌}
+use Rattle.std.proofs.Common.{◌≡◌, ◌≢◌, ℕ, ◌+◌, ◌*◌, ◌^◌, ◌<◌, ◌≤◌, Bool, true, false, cond, ◌&&◌, ◌||◌, ◌==◌, List, [], ◌∷◌, ◌++◌, map, length, get_or, set, length-set, Option, Some, None, refl, sym, ap, ◌∙◌, arith, ◌⊎◌, inl, inr, ◌↔◌}
 use Rattle.std.specs.List.{AllByRecursion, range_with_len}
 use Rattle.std.proofs.Math.Bool.{or-true, and-false}
 use Rattle.std.proofs.lemmas.Bool.{cases_eq, both_ways, eq-eqb, ne_eqb}
 use Rattle.std.proofs.lemmas.List.{get_or-set_same, get_or-set_other}
 use Rattle.std.proofs.lemmas.Nat.{same_from_place, mul-add-lt}
 use Rattle.conflict_index.specs.Masks.{has}
-use Rattle.conflict_index.specs.Index.{Read, Lane, Index, less_or, with_read, lane_at, lanes_with, is_sooner, MarksMoved}
+use Rattle.conflict_index.specs.Index.{Read, Lane, Index, forgotten, less_or, with_read, lane_at, lanes_with, is_sooner, is_read, put_in_order, MarksMoved}
 use Rattle.conflict_index.specs.Kept.{has_item, position_of, lane_of, reads_of, writes_of, index_of, IsKept, AreChanged}
 use Rattle.conflict_index.proofs.LaneLists.{least_hit, hit-same, hit-more, reads-same, OneItem}
-use Rattle.conflict_index.proofs.ItemLists.{reads-more, unread}
-use Rattle.conflict_index.proofs.Orders.{put-last}
+use Rattle.conflict_index.proofs.ItemLists.{reads-more, among-reads}
+use Rattle.conflict_index.proofs.Orders.{read-last}
 use Rattle.conflict_index.proofs.MaskLaws.{has-none, some-lane}
-use Rattle.conflict_index.proofs.Views.{lane_made, below-lanes, view-lane, view-lanes, marks-moved, item-same, item-other, is_hit, entry_of, AreEntries, met-entries, entries-met, EntryMoved, Moves}
+use Rattle.conflict_index.proofs.Views.{lane_made, lane-now, below-lanes, view-lane, view-lanes, marks-moved, item-same, item-other, is_hit, entry_of, AreEntries, met-entries, entries-met, EntryMoved, Moves}
 
 -- a read of an item by a lane that hadn't read it, and the entries that this lowers
 pub record ReadNoted (lanes : ℕ) (readers writers positions : List ℕ) (points after : List (Option ℕ)) (mask others moved k position item : ℕ) : Type 0 where
@@ -22,6 +22,15 @@ pub record ReadNoted (lanes : ℕ) (readers writers positions : List ℕ) (point
   pub mask_is : (u : ℕ) → has mask u ≡ cond (u == k) true (has_item readers u item)
   pub others_are : (u : ℕ) → has others u ≡ cond (u == k) false (has_item writers u item)
   pub lowered : AreChanged (has others) (λ writer. (k * lanes + 0) + writer) (λ writer point. Some (less_or point position)) points after moved
+
+-- a read of an item that was read already changes nothing
+pub read-again : (lane : Lane) (read : Read) → is_read lane.reads read.1 ≡ true → with_read lane read ≡ lane
+read-again lane read e = ap (λ t. lane_made (cond t lane.reads (put_in_order is_sooner read lane.reads)) lane.writes) e
+
+-- after a read of a new item that comes after all others
+pub last-now : (old : Index) (now : List Lane) (k : ℕ) (read : Read) → now ≡ lanes_with old k (with_read (lane_at old k) read) → k < length old.lanes
+    → AllByRecursion (λ r. (r.1 ≢ read.1) × (is_sooner r read ≡ true)) (lane_at old k).reads → (get_or now k forgotten).reads ≡ (lane_at old k).reads ++ read ∷ []
+last-now old now k read e l h = ap (λ (i : Lane). i.reads) (lane-now old now k (with_read (lane_at old k) read) e l) ∙ read-last (lane_at old k) read h
 
 module _ (lanes : ℕ) (readers writers positions : List ℕ) (points after : List (Option ℕ)) (mask others moved k position item : ℕ)
     (kept : IsKept lanes readers writers positions points) (noted : ReadNoted lanes readers writers positions points after mask others moved k position item) where
@@ -69,7 +78,11 @@ module _ (lanes : ℕ) (readers writers positions : List ℕ) (points after : Li
   pub read-own : lane_of masks writers places lanes k ≡ with_read (lane_of readers writers positions lanes k) (position, item)
   read-own =
       ap (λ many. lane_made (reads_of (has_item masks k) (position_of places lanes k) 0 many) (writes_of (has_item writers k) 0 many)) (length-set readers item mask)
-      ∙ ap (λ rs. lane_made rs (writes_of (has_item writers k) 0 (length readers))) (rw position-here at (reads-more (has_item readers k) (has_item masks k) (position_of positions lanes k) (position_of places lanes k) item 0 (length readers) (omega arith) (omega (arith, noted.within)) one-item))
+      ∙ ap (λ rs. lane_made rs (writes_of (has_item writers k) 0 (length readers))) (rw position-here at (reads-more (has_item readers k) (has_item masks k) (position_of positions lanes k) (position_of places lanes k) item 0 (length readers) (omega arith) (omega (arith, noted.within)) one-item)
+      ∙ sym (ap (λ t. cond t rs (put_in_order is_sooner (position, item) rs)) (among-reads (has_item readers k) (position_of positions lanes k) item 0 (length readers) (omega arith) (omega (arith, noted.within)) ∙ noted.fresh)))
+    where
+      rs : List Read
+      rs = reads_of (has_item readers k) (position_of positions lanes k) 0 (length readers)
 
   -- whom a lowered place belongs to
   below-others : (u : ℕ) → has others u ≡ true → u < lanes
@@ -213,7 +226,7 @@ module _ (lanes : ℕ) (readers writers positions : List ℕ) (points after : Li
 pub record ReadCalled (lanes : ℕ) (readers writers positions : List ℕ) (points given after : List (Option ℕ)) (readers_there writers_there mask others moved k position item place start : ℕ) : Type 0 where
   pub lane : k < lanes
   pub within : item < length readers
-  pub new : AllByRecursion (λ (r : Read). r.1 ≢ item) (lane_of readers writers positions lanes k).reads
+  pub fresh : has readers_there k ≡ false
   pub readers_are : readers_there ≡ get_or readers item 0
   pub writers_are : writers_there ≡ get_or writers item 0
   pub mask_is : (u : ℕ) → has mask u ≡ cond (u == k) true (has readers_there u)
@@ -227,7 +240,6 @@ pub record ReadCalled (lanes : ℕ) (readers writers positions : List ℕ) (poin
 pub record ReadDone (lanes : ℕ) (readers writers positions : List ℕ) (points : List (Option ℕ)) (marks : ℕ) (old : Index) (k position item : ℕ) : Type 0 where
   pub kept : IsKept lanes readers writers positions points
   pub lists : (index_of lanes readers writers positions marks).lanes ≡ lanes_with old k (with_read (lane_at old k) (position, item))
-  pub last : AllByRecursion (λ (r : Read). is_sooner r (position, item) ≡ true) (lane_at old k).reads → (lane_at (index_of lanes readers writers positions marks) k).reads ≡ (lane_at old k).reads ++ (position, item) ∷ []
   pub moved : MarksMoved old (index_of lanes readers writers positions marks)
 
 module _ (lanes : ℕ) (readers writers positions : List ℕ) (points given after : List (Option ℕ)) (readers_there writers_there mask others moved k position item place start : ℕ)
@@ -236,7 +248,7 @@ module _ (lanes : ℕ) (readers writers positions : List ℕ) (points given afte
   noted = record {
     lane = called.lane;
     within = called.within;
-    fresh = unread (has_item readers k) (position_of positions lanes k) item 0 (length readers) (omega arith) (omega (arith, called.within)) called.new;
+    fresh = sym (ap (λ m. has m k) called.readers_are) ∙ called.fresh;
     mask_is = λ u. called.mask_is u ∙ ap (λ m. cond (u == k) true (has m u)) called.readers_are;
     others_are = λ u. called.others_are u ∙ ap (λ m. cond (u == k) false (has m u)) called.writers_are;
     lowered = rw (called.start_is, called.given_are) at called.lowered;
@@ -249,7 +261,6 @@ module _ (lanes : ℕ) (readers writers positions : List ℕ) (points given afte
     lists =
         view-lanes (lane_of readers writers positions lanes) (lane_of masks_now writers places_now lanes) lanes k called.lane (read-others lanes readers writers positions points after mask others moved k position item kept noted)
         ∙ ap (λ l. set (map (lane_of readers writers positions lanes) (range_with_len 0 lanes)) k l) (own ∙ ap (λ l. with_read l (position, item)) (sym was));
-    last = λ h. ap (λ (l : Lane). l.reads) (view-lane lanes masks_now writers places_now marks k called.lane ∙ own) ∙ put-last is_sooner (position, item) (lane_of readers writers positions lanes k).reads (subst (λ (l : Lane). AllByRecursion (λ (r : Read). is_sooner r (position, item) ≡ true) l.reads) was h) ∙ ap (λ (l : Lane). l.reads ++ (position, item) ∷ []) (sym was);
     moved = marks-moved lanes readers writers positions points before masks_now writers places_now after marks kept.met done.met (read-moves lanes readers writers positions points after mask others moved k position item kept noted before marks flag small told is);
   })
     where

@@ -5,7 +5,7 @@ use Rattle.std.proofs.lemmas.Bool.{cases_eq, cases_lt, both_ways}
 use Rattle.std.proofs.lemmas.List.{get_or-set_same, get_or-set_other}
 use Rattle.std.proofs.lemmas.List.FromFn.{get_or-map-range_with_len, length-map-range_with_len, fill_by_all}
 use Rattle.conflict_index.specs.Masks.{has}
-use Rattle.conflict_index.specs.Index.{Read, Lane, Index, forgotten, lane_at, is_marked, is_among, point, point_at, HasMoved, MarksMoved}
+use Rattle.conflict_index.specs.Index.{Read, lanes_with, Lane, Index, forgotten, lane_at, is_marked, is_among, point, point_at, HasMoved, MarksMoved}
 use Rattle.conflict_index.specs.Kept.{has_item, position_of, lane_of, index_of, writes_of, AreBelow, AreMet}
 use Rattle.conflict_index.proofs.LaneLists.{least_hit, point-hit, hit-same}
 use Rattle.conflict_index.proofs.ItemLists.{among-writes}
@@ -42,6 +42,10 @@ view-lanes old new lanes k b same = sym (fill_by_all new (set (map old (range_wi
         get_or-set_other (map old (range_with_len 0 lanes)) k lane (new k) forgotten n
         ∙ get_or-map-range_with_len old 0 lanes lane lane forgotten l (omega arith)
         ∙ sym (same lane l n)
+
+-- one lane of an index that is replaced
+pub lane-now : (old : Index) (now : List Lane) (k : ℕ) (lists : Lane) → now ≡ lanes_with old k lists → k < length old.lanes → get_or now k forgotten ≡ lists
+lane-now old now k lists e l = ap (λ ls. get_or ls k forgotten) e ∙ get_or-set_same old.lanes k lists forgotten l
 
 -- one item's set that is replaced
 pub item-same : (masks : List ℕ) (item mask lane : ℕ) → item < length masks → has_item (set masks item mask) lane item ≡ has mask lane

@@ -57,9 +57,13 @@ abbrev pub put_in_order : {X : Type 0} → (X → X → Bool) → X → List X �
 put_in_order before x [] = x ∷ []
 put_in_order before x (y ∷ ys) = if before y x then y ∷ put_in_order before x ys else x ∷ y ∷ ys
 
--- the lane after one read more
+-- one of the reads is of the item
+abbrev pub is_read : List Read → ℕ → Bool
+is_read reads item = list_any (λ (r : Read). nat_eq item r.1) reads
+
+-- the lane after a read, of an item that it may have read before
 abbrev pub with_read : Lane → Read → Lane
-with_read lane read = record { reads = put_in_order is_sooner read lane.reads; writes = lane.writes }
+with_read lane read = record { reads = if is_read lane.reads read.1 then lane.reads else put_in_order is_sooner read lane.reads; writes = lane.writes }
 
 -- the lane after a write, of an item that it may have written before
 abbrev pub with_write : Lane → ℕ → Lane

@@ -60,24 +60,25 @@ impl Index {
         })
     }
 
-    /// Adds a read to a lane, of an item that the lane hasn't read.
+    /// Adds a read to a lane: its position and its item. One of an item that the lane has read already changes nothing.
     pub fn note_read(&mut self, lane: u32, position: u32, item: u32)
         requires lane { lane < length self.old.lanes }
         requires item { item < self.old.items }
-        requires new { AllByRecursion (λ read. read.1 ≢ item) (lane_at self.old lane).reads }
         ensures items { self.new.items ≡ self.old.items }
         ensures lanes { self.new.lanes ≡ lanes_with self.old lane (with_read (lane_at self.old lane) (position, item)) }
-        ensures last { AllByRecursion (λ read. is_sooner read (position, item) ≡ true) (lane_at self.old lane).reads
+        ensures last { AllByRecursion (λ read. (read.1 ≢ item) × (is_sooner read (position, item) ≡ true)) (lane_at self.old lane).reads
             → (lane_at self.new lane).reads ≡ (lane_at self.old lane).reads ++ (position, item) ∷ [] }
         ensures marks { MarksMoved self.old self.new }
     {
         let place = item as usize;
         let lanes = self.lanes;
-        self.readers[place] = with(self.readers[place], lane);
-        self.positions[cell(item, lanes, lane)] = position;
-        let writers = without(self.writers[place], lane);
-        let moved = lower_row(&mut self.points, cell(lane, lanes, 0), writers, position);
-        self.marks = with_where(self.marks, lane, moved != 0);
+        if !contains(self.readers[place], lane) {
+            self.readers[place] = with(self.readers[place], lane);
+            self.positions[cell(item, lanes, lane)] = position;
+            let writers = without(self.writers[place], lane);
+            let moved = lower_row(&mut self.points, cell(lane, lanes, 0), writers, position);
+            self.marks = with_where(self.marks, lane, moved != 0);
+        }
     }
 
     /// Adds an item to what a lane has written. One that is there changes nothing.
