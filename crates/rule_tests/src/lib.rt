@@ -16,6 +16,8 @@ mod picks;
 #[cfg(test)]
 mod points;
 #[cfg(test)]
+mod ready;
+#[cfg(test)]
 mod seats;
 #[cfg(test)]
 mod standings;
