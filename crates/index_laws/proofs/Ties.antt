@@ -1,5 +1,5 @@
 -- Points of what was noted, and one read or write more.
-use Rattle.std.proofs.Common.{◌≡◌, ◌≢◌, ℕ, suc, ◌+◌, ◌<◌, ◌≤◌, ℤ, Bool, true, false, cond, nat_lt, List, [], ◌∷◌, ◌++◌, map, filter, length, replicate, set, length-set, is_some, Option, Some, None, refl, sym, ap, ◌∙◌, arith, ◌⊎◌, inl, inr}
+use Rattle.std.proofs.Common.{◌≡◌, ◌≢◌, ℕ, zero, suc, ◌+◌, ◌<◌, ◌≤◌, ℤ, Bool, true, false, cond, nat_lt, List, [], ◌∷◌, ◌++◌, map, filter, length, replicate, set, length-set, is_some, Option, Some, None, refl, sym, ap, ◌∙◌, arith, ◌⊎◌, inl, inr}
 use Rattle.std.specs.List.{AllByRecursion}
 use Rattle.std.proofs.lemmas.Bool.{cases_eq, cases_lt, ne_eqb, lt-ltb}
 use Rattle.std.proofs.lemmas.List.{get_or-set_same, get_or-set_other, get_or_past, get_or-replicate, length-replicate, map_push}
@@ -26,12 +26,28 @@ front r rs ws = go (is_some (own ws r.1))
     go true = refl
     go false = refl
 
-pub points-same : (rs : List Read) (ws : Writes) → AllByRecursion (λ (r : Read). r.1 < length ws) rs → index.point (noted rs) (written ws) ≡ point rs ws
-points-same [] ws h = refl
-points-same (r ∷ rs) ws h =
+-- an item past the end isn't among the writes
+among-past : (hit : ℕ → Bool) (i item many : ℕ) → item + many ≤ i → index.is_among (writes_of hit item many) i ≡ false
+among-past hit i item zero l = refl
+among-past hit i item (suc many) l = go (hit item) (among-past hit i (suc item) many (omega arith))
+  where
+    go : (t : Bool) → index.is_among (writes_of hit (suc item) many) i ≡ false → index.is_among (cond t (item ∷ writes_of hit (suc item) many) (writes_of hit (suc item) many)) i ≡ false
+    go true h = rw (ne_eqb i item (omega arith)) h
+    go false h = h
+
+among-written : (ws : Writes) (i : ℕ) → index.is_among (written ws) i ≡ is_some (own ws i)
+among-written ws i = go (cases_lt i (length ws))
+  where
+    go : (i < length ws) ⊎ (length ws ≤ i) → index.is_among (written ws) i ≡ is_some (own ws i)
+    go (inl l) = among-writes (λ (item : ℕ). is_some (own ws item)) i 0 (length ws) (omega arith) (omega (arith, l))
+    go (inr g) = among-past (λ (item : ℕ). is_some (own ws item)) i 0 (length ws) (omega (arith, g)) ∙ sym (ap (λ (o : Option ℤ). is_some o) (get_or_past ws i None g))
+
+pub points-same : (rs : List Read) (ws : Writes) → index.point (noted rs) (written ws) ≡ point rs ws
+points-same [] ws = refl
+points-same (r ∷ rs) ws =
     point-cons (r.0, r.1) (noted rs) (written ws)
-    ∙ ap (λ t. cond t (Some (index.less_or (index.point (noted rs) (written ws)) r.0)) (index.point (noted rs) (written ws))) (among-writes (λ (item : ℕ). is_some (own ws item)) r.1 0 (length ws) (omega arith) (omega (arith, h.0)))
-    ∙ ap (λ o. cond (is_some (own ws r.1)) (Some (index.less_or o r.0)) o) (points-same rs ws h.1)
+    ∙ ap (λ t. cond t (Some (index.less_or (index.point (noted rs) (written ws)) r.0)) (index.point (noted rs) (written ws))) (among-written ws r.1)
+    ∙ ap (λ o. cond (is_some (own ws r.1)) (Some (index.less_or o r.0)) o) (points-same rs ws)
     ∙ ap (λ n. cond (is_some (own ws r.1)) (Some n) (point rs ws)) (same-less (point rs ws) r.0)
     ∙ sym (front r rs ws)
 
@@ -70,19 +86,16 @@ one-write rs ws item v l = ap (lane_made (noted rs)) (go (is_some (own ws item))
     long : writes_of (λ (i : ℕ). is_some (own (set ws item (Some v)) i)) 0 (length (set ws item (Some v))) ≡ writes_of (λ (i : ℕ). is_some (own (set ws item (Some v)) i)) 0 (length ws)
     long = ap (writes_of (λ (i : ℕ). is_some (own (set ws item (Some v)) i)) 0) (length-set ws item (Some v))
 
-    among : index.is_among (written ws) item ≡ is_some (own ws item)
-    among = among-writes (λ (i : ℕ). is_some (own ws i)) item 0 (length ws) (omega arith) (omega (arith, l))
-
     same : is_some (own ws item) ≡ true → (i : ℕ) → (i ≡ item) ⊎ (i ≢ item) → is_some (own (set ws item (Some v)) i) ≡ is_some (own ws i)
     same e i (inl q) = rw q (here ∙ sym e)
     same e i (inr n) = others i n
 
     go : (t : Bool) → is_some (own ws item) ≡ t → cond (index.is_among (written ws) item) (written ws) (index.put_in_order nat_lt item (written ws)) ≡ written (set ws item (Some v))
     go true e =
-        ap (λ t. cond t (written ws) (index.put_in_order nat_lt item (written ws))) (among ∙ e)
+        ap (λ t. cond t (written ws) (index.put_in_order nat_lt item (written ws))) (among-written ws item ∙ e)
         ∙ sym (long ∙ writes-same (λ (i : ℕ). is_some (own ws i)) (λ (i : ℕ). is_some (own (set ws item (Some v)) i)) 0 (length ws) (λ i g b. same e i (cases_eq i item)))
     go false e =
-        ap (λ t. cond t (written ws) (index.put_in_order nat_lt item (written ws))) (among ∙ e)
+        ap (λ t. cond t (written ws) (index.put_in_order nat_lt item (written ws))) (among-written ws item ∙ e)
         ∙ sym (long ∙ writes-more (λ (i : ℕ). is_some (own ws i)) (λ (i : ℕ). is_some (own (set ws item (Some v)) i)) item 0 (length ws) (omega arith) (omega (arith, l)) (record { fresh = e; here = here; others = others }))
 
 -- an item behind all others is put behind them

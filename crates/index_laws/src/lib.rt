@@ -14,7 +14,7 @@ ghost use Rattle.index_laws.specs.Noted.{noted, written, lane_of_run};
 
 /// The point of noted reads against noted writes is that of the reads against the writes.
 pub fn noted_points()
-    ensures { (rs : List Read) (ws : Writes) → AllByRecursion (λ r. r.1 < length ws) rs → point_noted (noted rs) (written ws) ≡ point rs ws }
+    ensures { (rs : List Read) (ws : Writes) → point_noted (noted rs) (written ws) ≡ point rs ws }
 {}
 
 /// A lane that has noted a run goes on with it: where nothing was read or written, nothing is noted; a read of an item
