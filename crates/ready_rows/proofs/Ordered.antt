@@ -12,7 +12,7 @@ use Rattle.forest_model.specs.Choose.{put_in_order, first_by, earlier_of}
 use Rattle.forest_model.specs.Pick.{pick_of, is_earlier, is_ready}
 use Rattle.ready_rows.specs.Rows.{is_at, IsInOrder, AreApart, AreReady}
 
-earlier_order : IsStrictWeakOrder is_earlier
+pub earlier_order : IsStrictWeakOrder is_earlier
 earlier_order = record {
   one_way = λ a b h. grind (arith, nat_tests);
   chain = λ a b c g h. grind (arith, nat_tests);
@@ -26,10 +26,10 @@ through a b c g h = go (is_earlier a c) refl
     go false e = absurd (both_ways (is_earlier b c) (earlier_order.chain b a c (earlier_order.one_way a b g) e) h)
 
 -- of the rows of two shadows one is the earlier
-other-way : (a b : Row) → is_at a.txn a.place b ≡ false → is_earlier b a ≡ false → is_earlier a b ≡ true
+pub other-way : (a b : Row) → is_at a.txn a.place b ≡ false → is_earlier b a ≡ false → is_earlier a b ≡ true
 other-way a b n h = grind (arith, nat_tests)
 
-at-both : (a b : Row) → is_at a.txn a.place b ≡ false → is_at b.txn b.place a ≡ false
+pub at-both : (a b : Row) → is_at a.txn a.place b ≡ false → is_at b.txn b.place a ≡ false
 at-both a b n = grind (arith, nat_tests)
 
 all-at : {X : Type 0} (P : X → Type 0) (xs : List X) (i : ℕ) (d : X) → i < length xs → AllByRecursion P xs → P (get_or xs i d)
@@ -76,7 +76,7 @@ put-apart row (y ∷ ys) h n = go (is_earlier y row) (put-apart row ys h.1 n.1)
     go false r = (n, h)
 
 -- the first of rows in order is their pick
-keeps-ready : (rows : List Row) → AllByRecursion (λ row. is_ready row ≡ true) rows → filter is_ready rows ≡ rows
+pub keeps-ready : (rows : List Row) → AllByRecursion (λ row. is_ready row ≡ true) rows → filter is_ready rows ≡ rows
 keeps-ready [] h = refl
 keeps-ready (y ∷ ys) h = rw h.0 (ap (λ zs. y ∷ zs) (keeps-ready ys h.1))
 
@@ -89,7 +89,7 @@ pub pick-head : (rows : List Row) → IsInOrder rows → AllByRecursion (λ row.
 pick-head rows h r = ap (first_by is_earlier) (keeps-ready rows r) ∙ first-head rows h
 
 -- without the row of a shadow
-filter-all : (P : Row → Type 0) (test : Row → Bool) (rows : List Row) → AllByRecursion P rows → AllByRecursion P (filter test rows)
+pub filter-all : (P : Row → Type 0) (test : Row → Bool) (rows : List Row) → AllByRecursion P rows → AllByRecursion P (filter test rows)
 filter-all P test [] h = tt
 filter-all P test (y ∷ ys) h = go (test y) (filter-all P test ys h.1)
   where
@@ -105,7 +105,7 @@ filter-order test (y ∷ ys) h = go (test y) (filter-order test ys h.1)
     go true r = (filter-all (λ o. is_earlier y o ≡ true) test ys h.0, r)
     go false r = r
 
-filter-apart : (test : Row → Bool) (rows : List Row) → AreApart rows → AreApart (filter test rows)
+pub filter-apart : (test : Row → Bool) (rows : List Row) → AreApart rows → AreApart (filter test rows)
 filter-apart test [] h = tt
 filter-apart test (y ∷ ys) h = go (test y) (filter-apart test ys h.1)
   where

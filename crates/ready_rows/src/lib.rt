@@ -3,11 +3,12 @@
 //! The rules stand in docs/RULES.md, what is proved in docs/PROMISES.md.
 #![tactic(auto)]
 
-ghost use Rattle.std.specs.Prelude.{◌≡◌, ◌↔◌, ◌*◌, ◌≤◌, ◌<◌, IsTrue, false, None, [], not, length, filter, option_map, IfOk};
+ghost use Rattle.std.specs.Prelude.{◌≡◌, ◌↔◌, ◌*◌, ◌≤◌, ◌<◌, ◌++◌, ◌∷◌, IsTrue, List, true, false, None, [], not, length, filter, option_map, IfOk};
 ghost use Rattle.std.specs.List.{AllByRecursion, list_any, insert, position};
-ghost use Rattle.forest_model.specs.Choose.{put_in_order};
+ghost use Rattle.block_rule.specs.declared.role.Row.{Row as RowOf};
+ghost use Rattle.forest_model.specs.Choose.{put_in_order, in_order};
 ghost use Rattle.forest_model.specs.Pick.{pick_of, is_earlier as is_earlier_of, is_ready as is_ready_of};
-ghost use Rattle.ready_rows.specs.Rows.{is_at, IsInOrder};
+ghost use Rattle.ready_rows.specs.Rows.{is_at, AreApart, IsInOrder};
 
 use block_rule::{Role, Row};
 use ready_order::is_earlier;
@@ -102,3 +103,13 @@ fn place_of(rows: &[Row], txn: u32, place: u32) -> Option<usize>
     rows.iter()
         .position(|row| row.txn == txn && row.place == place)
 }
+
+/// How the rows in order follow all rows of shadows: the pick is theirs, and where one row comes in between others it is
+/// put in order, and is taken out again as it goes.
+pub fn following()
+    ensures pick { (rows : List RowOf) → AreApart rows → pick_of (in_order is_earlier_of (filter is_ready_of rows)) ≡ pick_of rows }
+    ensures put { (xs ys : List RowOf) (row : RowOf) → is_ready_of row ≡ true → AllByRecursion (λ other. is_at row.txn row.place other ≡ false) ys
+        → in_order is_earlier_of (filter is_ready_of (xs ++ row ∷ ys)) ≡ put_in_order is_earlier_of row (in_order is_earlier_of (filter is_ready_of (xs ++ ys))) }
+    ensures out { (xs ys : List RowOf) (row : RowOf) → AllByRecursion (λ other. is_at row.txn row.place other ≡ false) xs → AllByRecursion (λ other. is_at row.txn row.place other ≡ false) ys
+        → filter (λ other. not (is_at row.txn row.place other)) (in_order is_earlier_of (filter is_ready_of (xs ++ row ∷ ys))) ≡ in_order is_earlier_of (filter is_ready_of (xs ++ ys)) }
+{}
