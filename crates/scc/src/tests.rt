@@ -48,7 +48,7 @@ fn words_of(alloc: Global, words: &[&str]) -> Result<Vec<String>, AllocError> {
 }
 
 // How the words end over this source and sink.
-fn status_over<R: Threads + Wait + AllocGlobal, S: Source>(
+fn status_over<R: Threads + Wait + Sync + AllocGlobal, S: Source>(
     rt: &R,
     words: &[&str],
     source: &mut S,
@@ -68,7 +68,7 @@ fn status_over<R: Threads + Wait + AllocGlobal, S: Source>(
 }
 
 // Whether the words and the case's input end as the case says, with what it says written.
-fn ends_so<R: Threads + Wait + AllocGlobal>(
+fn ends_so<R: Threads + Wait + Sync + AllocGlobal>(
     rt: &R,
     words: &[&str],
     case: Case<'_>,
@@ -88,7 +88,7 @@ fn ends_so<R: Threads + Wait + AllocGlobal>(
 const SCRIPT: [&str; 3] = ["script", "1", "1"];
 
 // The words and the input give this output, in pieces of any size.
-pub fn gives<R: Threads + Wait + AllocGlobal>(
+pub fn gives<R: Threads + Wait + Sync + AllocGlobal>(
     rt: &R,
     words: &[&str],
     input: &[u8],
@@ -368,6 +368,24 @@ fn the_generator_reads_nothing(rt: HostRuntime) -> Result<(), Fail> {
 }
 
 #[test]
+fn a_batch_ends_by_its_report_or_by_a_refused_line(rt: HostRuntime) -> Result<(), Fail> {
+    let row = plain(
+        b"table a 2\nbegin 1 { a[1] = 3; emit 3; }\n",
+        b"commit 1 done 3\nfinal a 0 3\nend 1\n",
+    );
+    assert!(rt; ends_so(&rt, &["batch", "2", "2", "1"], row)?);
+    assert!(rt; ends_so(&rt, &["batch", "8", "64", "16"], row)?);
+    let refused = Case {
+        input: b"table a 2\nstep 1\nbegin 1 { a[1] = 3; emit 3; }\n",
+        status: Status::BadInput { line: 2 },
+        written: b"bad 2 12\n",
+        ..row
+    };
+    assert!(rt; ends_so(&rt, &["batch", "2", "2", "1"], refused)?);
+    Ok(())
+}
+
+#[test]
 fn words_name_a_mode(rt: HostRuntime) -> Result<(), Fail> {
     let good = plain(ROW_1, REPLY_1);
     let bad = Case {
@@ -401,7 +419,15 @@ fn words_name_a_mode(rt: HostRuntime) -> Result<(), Fail> {
         assert!(rt; ends_so(&rt, &mode, bad)?);
     }
     assert!(rt; ends_so(&rt, &["script", "1"], bad)?);
-    assert!(rt; ends_so(&rt, &["script", "1", "1", "1"], bad)?);
+    for mode in [
+        ["batch", "9", "1", "1"],
+        ["batch", "1", "65", "1"],
+        ["batch", "1", "1", "0"],
+        ["batch", "1", "1", "17"],
+        ["script", "1", "1", "1"],
+    ] {
+        assert!(rt; ends_so(&rt, &mode, bad)?);
+    }
     assert!(rt; ends_so(&rt, &[], bad)?);
     Ok(())
 }

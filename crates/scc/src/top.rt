@@ -1,14 +1,15 @@
 // The calls that do all that the program does.
-ghost use Rattle.std.specs.Prelude.{◌≡◌, ◌≤◌, ℕ, List, map, string_bytes};
+ghost use Rattle.std.specs.Prelude.{◌≡◌, ◌≤◌, ℕ, List, map, string_bytes, IfSome, IfNone};
 ghost use Rattle.scc_ports.specs.Ports.{Rose};
 ghost use Rattle.scc_script.specs.Ran.{ScriptRan};
 ghost use Rattle.serial_text.specs.Told.{PrintedSerially};
 ghost use Rattle.scc.specs.Generated.{HasGenerated};
 ghost use Rattle.scc.specs.Served.{Served, outside};
 ghost use Rattle.scc.specs.Exit.{exit_code_of};
-ghost use Rattle.scc.specs.Words.{SpellsGen};
+ghost use Rattle.scc.specs.Words.{Spells, SpellsAlone, SpellsBatch, SpellsGen};
 
 use crate::words::{BadWords, Mode, read_words};
+use scc_batch::batch;
 use scc_gen::put_gen;
 use scc_ports::{Gate, Sink, Source, write_all};
 use scc_script::{Status, script};
@@ -18,29 +19,49 @@ use std::sync::ledger::{Blank, Ledger};
 use std::thread::Threads;
 use step_count::Steps;
 
-/// Does what the words ask for: all modes, those with threads among them. Its promises hold if it returns.
-/// For now `script` and `gen` are the modes, and neither needs a thread.
-pub fn scc_top<R: Threads + Wait, S: Source, K: Sink, G: Gate + Sync, L: Ledger>(
-    _rt: &R,
+/// Does what the words ask for: all modes, those with threads among them. `batch K LANES WORKERS` ends as `scc_batch::batch`, and the
+/// other modes as in `scc_plain`. `BadWords` exactly where the words name none, with nothing done.
+///
+/// Workers wait for their turns, so its promises hold if it returns.
+pub fn scc_top<R: Threads + Wait + Sync, S: Source, K: Sink, G: Gate + Sync, L: Ledger>(
+    rt: &R,
     alloc: Global,
     words: &[String],
     source: &mut S,
     sink: &mut K,
-    _gate: &G,
+    gate: &G,
     steps: &mut Steps<L>,
 ) -> Status
-    ensures served { Served (map string_bytes words.now) result
+    ensures served { Served (Spells (map string_bytes words.now)) result
         (outside (S.left source.old) (S.faults source.old) (K.written sink.old) (K.faults sink.old) steps.old)
         (outside (S.left source.new) (S.faults source.new) (K.written sink.new) (K.faults sink.new) steps.new) }
     ensures nothing { result ≡ Status.BadWords → (source.new ≡ source.old) × (sink.new ≡ sink.old) × (steps.new ≡ steps.old) }
     ensures unread { (seed count : ℕ) → SpellsGen (map string_bytes words.now) seed count → (source.new ≡ source.old) × (steps.new ≡ steps.old) }
 {
-    scc_plain(alloc, words, source, sink, steps)
+    match batch_words(words) {
+        Some((k, lanes, workers)) => {
+            batch(rt, alloc, k, lanes, workers, source, sink, gate, steps)
+        }
+        None => scc_plain(alloc, words, source, sink, steps),
+    }
+}
+
+// K, LANES and WORKERS, where the words ask for a batch.
+fn batch_words(words: &[String]) -> Option<(u32, u32, u32)>
+    ensures some { IfSome result (λ sizes. SpellsBatch (map string_bytes words.now) sizes.0 sizes.1 sizes.2) }
+    ensures none { IfNone result ((k lanes workers : ℕ) → ¬ SpellsBatch (map string_bytes words.now) k lanes workers) }
+{
+    match read_words(words) {
+        Ok(Mode::Batch { k, lanes, workers }) => Some((k, lanes, workers)),
+        Ok(Mode::Script { .. }) => None,
+        Ok(Mode::Gen { .. }) => None,
+        Err(BadWords) => None,
+    }
 }
 
 /// Does what the words ask for, where that needs no thread: `script K LANES` ends as `scc_script::script`, and `gen SEED COUNT` with
 /// the generator's text written, in one piece, and nothing read. It always returns. `BadWords` exactly where the words name neither,
-/// with nothing done.
+/// with nothing done: also for `batch`, which needs threads.
 pub fn scc_plain<S: Source, K: Sink, L: Ledger>(
     alloc: Global,
     words: &[String],
@@ -48,7 +69,7 @@ pub fn scc_plain<S: Source, K: Sink, L: Ledger>(
     sink: &mut K,
     steps: &mut Steps<L>,
 ) -> Status
-    ensures served { Served (map string_bytes words.now) result
+    ensures served { Served (SpellsAlone (map string_bytes words.now)) result
         (outside (S.left source.old) (S.faults source.old) (K.written sink.old) (K.faults sink.old) steps.old)
         (outside (S.left source.new) (S.faults source.new) (K.written sink.new) (K.faults sink.new) steps.new) }
     ensures nothing { result ≡ Status.BadWords → (source.new ≡ source.old) × (sink.new ≡ sink.old) × (steps.new ≡ steps.old) }
@@ -57,6 +78,7 @@ pub fn scc_plain<S: Source, K: Sink, L: Ledger>(
     match read_words(words) {
         Ok(Mode::Script { k, lanes }) => serial_script(alloc, k, lanes, source, sink, steps),
         Ok(Mode::Gen { seed, count }) => generate(alloc, seed, count, sink),
+        Ok(Mode::Batch { .. }) => Status::BadWords,
         Err(BadWords) => Status::BadWords,
     }
 }
@@ -117,7 +139,7 @@ pub fn exit_code(status: Status) -> u8
 }
 
 /// All modes, with a counter that nobody reads.
-pub fn top_uncounted<L: Ledger, R: Threads + Wait, S: Source, K: Sink, G: Gate + Sync>(
+pub fn top_uncounted<L: Ledger, R: Threads + Wait + Sync, S: Source, K: Sink, G: Gate + Sync>(
     blank: Blank,
     rt: &R,
     alloc: Global,
@@ -130,7 +152,7 @@ pub fn top_uncounted<L: Ledger, R: Threads + Wait, S: Source, K: Sink, G: Gate +
     requires parts { blank.parts ≡ L.parts }
     requires one { blank.parts ≡ 1 }
     // There is a number of steps with which the same holds.
-    ensures served { (steps : ℕ) × Served (map string_bytes words.now) result
+    ensures served { (steps : ℕ) × Served (Spells (map string_bytes words.now)) result
         (outside (S.left source.old) (S.faults source.old) (K.written sink.old) (K.faults sink.old) 0)
         (outside (S.left source.new) (S.faults source.new) (K.written sink.new) (K.faults sink.new) steps) }
     ensures nothing { result ≡ Status.BadWords → (source.new ≡ source.old) × (sink.new ≡ sink.old) }

@@ -9,6 +9,9 @@ use scc_text::read_natural;
 pub enum Mode {
     /// Answers each line as it is read, with at most `k` shadows a transaction, 1 to 8, and so many lanes, 1 to 64.
     Script { k: u32, lanes: u32 },
+    /// Runs a whole input as one batch, with at most `k` shadows a transaction, 1 to 8, so many lanes, 1 to 64, and so many workers, 1
+    /// to 16.
+    Batch { k: u32, lanes: u32, workers: u32 },
     /// Writes the generator's text for a seed of at most 65,536 and so many programs, 1 to 20,000.
     Gen { seed: u32, count: u32 },
 }
@@ -17,14 +20,22 @@ pub enum Mode {
 #[derive(Clone, Copy, Debug, PartialEq, Eq)]
 pub struct BadWords;
 
-/// The mode that the words name: `script`, K from 1 to 8 and LANES from 1 to 64, or `gen`, SEED from 0 to 65,536 and COUNT from 1 to
-/// 20,000, each number of 1 to 10 digits. `BadWords` exactly where they name none.
+/// The mode that the words name: `script`, K from 1 to 8 and LANES from 1 to 64; `batch`, these two and WORKERS from 1 to 16; or `gen`,
+/// SEED from 0 to 65,536 and COUNT from 1 to 20,000. Each number has 1 to 10 digits. `BadWords` exactly where they name none.
 pub fn read_words(words: &[String]) -> Result<Mode, BadWords>
     ensures ok { IfOk result (λ mode. Spells (map string_bytes words.now) mode) }
     ensures err { OnErr result ((mode : Mode) → ¬ Spells (map string_bytes words.now) mode) }
 {
     match words {
         [mode, first, second] => read_mode(mode.as_str(), first.as_str(), second.as_str()),
+        [mode, first, second, third] => {
+            read_long_mode(
+                mode.as_str(),
+                first.as_str(),
+                second.as_str(),
+                third.as_str(),
+            )
+        }
         _ => Err(BadWords),
     }
 }
@@ -43,9 +54,22 @@ fn read_mode(mode: &str, first: &str, second: &str) -> Result<Mode, BadWords>
     }
 }
 
-fn read_script(k: &str, lanes: &str) -> Result<Mode, BadWords>
-    ensures ok { IfOk result (λ found. Spells (codes "script" ∷ k.now ∷ lanes.now ∷ []) found) }
-    ensures err { OnErr result ((found : Mode) → ¬ Spells (codes "script" ∷ k.now ∷ lanes.now ∷ []) found) }
+// A mode with three numbers.
+fn read_long_mode(mode: &str, first: &str, second: &str, third: &str) -> Result<Mode, BadWords>
+    ensures ok { IfOk result (λ found. Spells (mode.now ∷ first.now ∷ second.now ∷ third.now ∷ []) found) }
+    ensures err { OnErr result ((found : Mode) → ¬ Spells (mode.now ∷ first.now ∷ second.now ∷ third.now ∷ []) found) }
+{
+    if mode == "batch" {
+        read_batch(first, second, third)
+    } else {
+        Err(BadWords)
+    }
+}
+
+// How many shadows a transaction may have, and how many lanes there are.
+fn read_sizes(k: &str, lanes: &str) -> Result<(u32, u32), BadWords>
+    ensures ok { IfOk result (λ found. SpellsNumber k.now 1 8 found.0 × SpellsNumber lanes.now 1 64 found.1) }
+    ensures err { OnErr result ((most width : ℕ) → SpellsNumber k.now 1 8 most → ¬ SpellsNumber lanes.now 1 64 width) }
 {
     let Some(k) = read_number(k.as_bytes(), 1, 8) else {
         return Err(BadWords);
@@ -53,7 +77,26 @@ fn read_script(k: &str, lanes: &str) -> Result<Mode, BadWords>
     let Some(lanes) = read_number(lanes.as_bytes(), 1, 64) else {
         return Err(BadWords);
     };
+    Ok((k, lanes))
+}
+
+fn read_script(k: &str, lanes: &str) -> Result<Mode, BadWords>
+    ensures ok { IfOk result (λ found. Spells (codes "script" ∷ k.now ∷ lanes.now ∷ []) found) }
+    ensures err { OnErr result ((found : Mode) → ¬ Spells (codes "script" ∷ k.now ∷ lanes.now ∷ []) found) }
+{
+    let (k, lanes) = read_sizes(k, lanes)?;
     Ok(Mode::Script { k, lanes })
+}
+
+fn read_batch(k: &str, lanes: &str, workers: &str) -> Result<Mode, BadWords>
+    ensures ok { IfOk result (λ found. Spells (codes "batch" ∷ k.now ∷ lanes.now ∷ workers.now ∷ []) found) }
+    ensures err { OnErr result ((found : Mode) → ¬ Spells (codes "batch" ∷ k.now ∷ lanes.now ∷ workers.now ∷ []) found) }
+{
+    let (k, lanes) = read_sizes(k, lanes)?;
+    let Some(workers) = read_number(workers.as_bytes(), 1, 16) else {
+        return Err(BadWords);
+    };
+    Ok(Mode::Batch { k, lanes, workers })
 }
 
 fn read_gen(seed: &str, count: &str) -> Result<Mode, BadWords>

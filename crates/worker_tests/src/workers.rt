@@ -39,7 +39,6 @@ pub fn bench_for(alloc: Global, forest: &Forest) -> Result<Bench, AllocError>
     bench
 }
 
-// The role is a parameter: the prover would work a step of a known role out, which takes it minutes.
 fn counted_step<L: Ledger>(blank: Blank, forest: &mut Forest, txn: u32, role: Role)
     requires { (blank.name ≡ L.name) × (blank.parts ≡ L.parts) × (0 < blank.parts) }
 {
@@ -246,8 +245,8 @@ pub fn is_done_within<R: Clock>(rt: &R, done: &AtomicBool, looks: u32) -> bool {
     false
 }
 
-// Ends the test as failed where its work isn't done within the limit, as where a thread waits that nobody wakes.
-fn watch<R: Clock + Abort>(rt: &R, done: &AtomicBool) {
+/// Ends the test as failed where its work isn't done within the limit, as where a thread waits that nobody wakes.
+pub fn watch<R: Clock + Abort>(rt: &R, done: &AtomicBool) {
     if !is_done_within(rt, done, LIMIT_SECONDS * LOOKS_A_SECOND) {
         panic!(rt; "the work isn't done within the limit: a thread waits that nobody wakes");
     }

@@ -1,0 +1,5 @@
+pub mod Begun
+pub mod Ends
+pub mod Over
+pub mod Lasting
+pub mod Telling

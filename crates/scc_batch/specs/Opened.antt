@@ -1,0 +1,28 @@
+-- A forest in which all programs of a batch began, and no more may begin.
+use Rattle.std.specs.Prelude.{◌≡◌, ◌≤◌, ℕ, ◌+◌, List, [], ◌∷◌, ◌++◌, map}
+use Rattle.txn_runs.specs.Bounds.{reach}
+use Rattle.txn_runs.specs.Run.{Tables}
+use Rattle.txn_runs.specs.declared.program.Program.{Program}
+use Rattle.journal_core.specs.declared.entry.Entry.{Entry}
+use Rattle.journal_core.specs.declared.entry.Entry.TheVariants.{Began}
+use Rattle.forest_model.specs.Forest.{Forest}
+use Rattle.batch_input.specs.declared.request.Request.{Request}
+
+-- the program reaches no item beyond so many, and its deadline lies within its limit
+pub record IsWithin (items : ℕ) (request : Request) : Type 0 where
+  pub reach : reach request.program ≤ items
+  pub deadline : request.deadline ≤ 1000000000000
+
+-- the entries with which these requests begin, in order, with numbers from this one up
+abbrev pub begun_from : ℕ → List Request → List Entry
+begun_from number [] = []
+begun_from number (request ∷ requests) = Began number request.deadline request.program ∷ begun_from (number + 1) requests
+
+-- the programs, in the order of their lines
+abbrev pub programs_of : List Request → List Program
+programs_of requests = map (λ (request : Request). request.program) requests
+
+-- the forest opened over these tables, and after the begins of these requests, in order, come these entries
+pub record HasBegun (tables : Tables) (requests : List Request) (more : List Entry) (f : Forest) : Type 0 where
+  pub opening : f.opening ≡ tables
+  pub journal : f.journal ≡ begun_from 1 requests ++ more
