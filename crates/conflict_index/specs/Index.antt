@@ -1,5 +1,5 @@
 -- What lanes have read and written, where each reader's point against each writer lies, and which lanes' points have moved.
-use Rattle.std.specs.Prelude.{ℕ, ◌≢◌, ◌<◌, min, Bool, false, ◌&&◌, ◌||◌, ◌==◌, nat_eq, nat_lt, if◌then◌else◌, List, [], ◌∷◌, map, filter, length, Option, Some, None, slice_index_or, slice_set, IsTrue, ◌↔◌, ◌⊎◌}
+use Rattle.std.specs.Prelude.{ℕ, ◌≡◌, true, ◌≢◌, ◌<◌, min, Bool, false, ◌&&◌, ◌||◌, ◌==◌, nat_eq, nat_lt, if◌then◌else◌, List, [], ◌∷◌, map, filter, length, Option, Some, None, slice_index_or, slice_set, IsTrue, ◌↔◌, ◌⊎◌}
 use Rattle.std.specs.List.{list_any}
 
 -- a read: its position, and its item
@@ -80,3 +80,7 @@ HasMoved old new lane = (writer : ℕ) × (writer < length new.lanes) × (writer
 -- the marked lanes are those that were marked before and those of which a point has moved, and no others
 abbrev pub MarksMoved : Index → Index → Type 0
 MarksMoved old new = (lane : ℕ) → lane < length new.lanes → (IsTrue (is_marked new lane) ↔ (IsTrue (is_marked old lane) ⊎ HasMoved old new lane))
+
+-- another lane has written the item, against which the lane has no point
+abbrev pub Fills : Index → ℕ → ℕ → Type 0
+Fills index lane item = (writer : ℕ) × (writer < length index.lanes) × (writer ≢ lane) × (is_among (lane_at index writer).writes item ≡ true) × (point_at index lane writer ≡ None)

@@ -1,9 +1,9 @@
-ghost use Rattle.std.specs.Prelude.{◌≡◌, ◌≢◌, ℕ, ◌+◌, ◌*◌, ◌<◌, ◌≤◌, ◌++◌, ◌∷◌, [], length, replicate, true, false, Option, Some, None, IfOk};
+ghost use Rattle.std.specs.Prelude.{◌≡◌, ◌≢◌, ℕ, ◌+◌, ◌*◌, ◌<◌, ◌≤◌, ◌++◌, ◌∷◌, [], length, replicate, true, false, IsTrue, ◌↔◌, Option, Some, None, IfOk};
 ghost use Rattle.std.specs.List.{AllByRecursion};
-ghost use Rattle.conflict_index.specs.Index.{lane_at, is_marked, is_sooner, point_at, forgotten, with_read, with_write, lanes_with, MarksMoved};
+ghost use Rattle.conflict_index.specs.Index.{lane_at, is_marked, is_sooner, point_at, forgotten, with_read, with_write, lanes_with, MarksMoved, Fills};
 
 use crate::mask::{contains, union, with, with_where, without, without_each};
-use crate::points::{cell, empty_column, empty_row, lower_column, lower_row};
+use crate::points::{cell, empty_column, empty_row, has_empty, lower_column, lower_row};
 use std::alloc::{AllocError, Global};
 use std::marker::Model;
 
@@ -124,6 +124,17 @@ impl Index {
         ensures { result ≡ point_at self.now reader writer }
     {
         self.points[cell(reader, self.lanes, writer)]
+    }
+
+    /// Whether a read of the item, behind all others of the lane, would give the lane a point against one against which
+    /// it has none.
+    pub fn fills(&self, lane: u32, item: u32) -> bool
+        requires lane { lane < length self.now.lanes }
+        requires item { item < self.now.items }
+        ensures { IsTrue result ↔ Fills self.now lane item }
+    {
+        let writers = without(self.writers[item as usize], lane);
+        has_empty(&self.points, cell(lane, self.lanes, 0), writers)
     }
 
     /// Whether a point of the lane has moved since the marks were settled.

@@ -48,6 +48,22 @@ pub fn lower_row(points: &mut [Option<u32>], start: usize, writers: u64, positio
     moved
 }
 
+// Whether a point of the row that begins at a place is empty, at a lane of the mask.
+pub fn has_empty(points: &[Option<u32>], start: usize, writers: u64) -> bool
+    requires { (writer : ℕ) → has writers writer ≡ true → start + writer < length points.now }
+    ensures { IsTrue result ↔ ((writer : ℕ) × (has writers writer ≡ true) × (slice_index_or points.now (start + writer) None ≡ None)) }
+{
+    let mut left = writers;
+    while left != 0 {
+        let writer = first(left);
+        if points[start + writer as usize].is_none() {
+            return true;
+        }
+        left = without(left, writer);
+    }
+    false
+}
+
 // Lowers the points against a writer, of the lanes of the mask, each to its position; the lanes where that changed one.
 pub fn lower_column(
     points: &mut [Option<u32>],

@@ -29,11 +29,13 @@ fn what_changes_no_point_marks_nobody(rt: HostRuntime) -> Result<(), Fail> {
     index.note_write(1, 2);
     index.note_read(1, 0, 2);
     assert!(rt; !index.changed(0) && !index.changed(1) && !index.changed(2));
+    assert!(rt; index.fills(0, 2) && !index.fills(0, 3) && !index.fills(1, 2));
     // the read fills a point, the later one of another written item doesn't lower it
     index.note_read(0, 4, 2);
     assert!(rt; index.changed(0) && !index.changed(1));
     index.settled();
     index.note_write(1, 3);
+    assert!(rt; !index.fills(0, 3) && index.fills(2, 3));
     index.note_read(0, 6, 3);
     assert_eq!(rt; index.point_of(0, 1), Some(4));
     assert!(rt; !index.changed(0));
