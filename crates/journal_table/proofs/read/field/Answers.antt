@@ -1,0 +1,11 @@
+use Rattle.std.proofs.Common.{◌≡◌, ◌∙◌, sym, ap, Some, None}
+use Rattle.std.specs.Prelude.{option_map}
+use Rattle.csv.specs.Records.{fields_of}
+use Rattle.journal_table.proofs.Forms.{field-found, field-none}
+use Rattle.journal_table.proofs.read.field.Goals as goal
+
+pub returns-in-Some : goal.returns-in-Some
+returns-in-Some c = field-found (fields_of c.args.row.now) c.args.place c.in-Some.field.now c.in-Some.ensures.value
+
+pub returns-in-None : goal.returns-in-None
+returns-in-None c = field-none (fields_of c.args.row.now) c.args.place c.in-None.ensures.value

@@ -1,0 +1,11 @@
+//! Audits of what was printed: today of a journal as a table.
+//!
+//! It runs each program once, alone, and knows no forest. The formats stand in docs/FORMATS.md, what is proved in docs/PROMISES.md.
+#![tactic(auto)]
+
+mod journal;
+mod verdict;
+
+pub use journal::audit_journal;
+pub use journal_table::{Replay, put_record, write_journal};
+pub use verdict::Verdict;
