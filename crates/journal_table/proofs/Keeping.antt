@@ -10,8 +10,8 @@ use Rattle.txn_runs.specs.Bounds.{reach}
 use Rattle.txn_runs.specs.declared.program.Program.{Program}
 use Rattle.txn_runs.specs.declared.outcome.Outcome.{Outcome}
 use Rattle.journal_core.specs.declared.entry.Entry.{Entry}
-use Rattle.journal_core.specs.declared.entry.Entry.TheVariants.{Began, Sealed, Committed, Withdrawn}
-use Rattle.journal_core.specs.Journal.{is_begin, began, has_begun, is_live, program_of, commit_in, tables_after, Continues, IsLegal}
+use Rattle.journal_core.specs.declared.entry.Entry.TheVariants.{Began, Committed}
+use Rattle.journal_core.specs.Journal.{is_begin, began, has_begun, is_live, program_of, commit_in, Continues}
 use Rattle.journal_core.proofs.Legal.{began-push, begun-live, begun-more, program_of-push, program_of-begun, has_begun-push, legal-push, counts, next_new, tables_after-other, tables_after-commit}
 use Rattle.journal_table.specs.Replayed.{IsBegin, IsKept}
 

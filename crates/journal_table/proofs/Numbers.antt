@@ -1,5 +1,5 @@
 -- A number that is written is read back.
-use Rattle.std.proofs.Common.{◌≡◌, ◌≤◌, ◌<◌, ◌^◌, ◌-◌, ℕ, min, Some, None, Option, true, List, ap, sym, ◌∙◌, arith, rules}
+use Rattle.std.proofs.Common.{◌≡◌, ◌<◌, ◌^◌, ◌-◌, ℕ, min, Some, Option, true, List, ap, ◌∙◌, arith, rules}
 use Rattle.std.specs.Prelude.{decimal, option_map}
 use Rattle.std.specs.Char.{is_ascii_digit}
 use Rattle.std.specs.List.{list_all}

@@ -1,7 +1,7 @@
 -- Texts that are put together, and taken apart again.
-use Rattle.std.proofs.Common.{◌≡◌, ℕ, ◌+◌, ◌-◌, ◌≤◌, List, [], ◌∷◌, ◌++◌, length, take, drop, refl, sym, ap, ◌∙◌, append_assoc, arith, suc, length-append}
+use Rattle.std.proofs.Common.{◌≡◌, ℕ, ◌+◌, ◌-◌, ◌≤◌, List, [], ◌∷◌, ◌++◌, length, take, drop, refl, sym, ap, ◌∙◌, append_assoc, arith, length-append}
 use Rattle.std.proofs.Common.{add-one, subst, Option, Some, None}
-use Rattle.std.specs.Prelude.{codes, decimal, flat_map}
+use Rattle.std.specs.Prelude.{codes, decimal}
 use Rattle.std.specs.List.{slice_get}
 use Rattle.std.specs.Io.KnownBytes.{Appends}
 use Rattle.std.proofs.Math.Seq.{take-suc}
@@ -19,7 +19,7 @@ use Rattle.std.proofs.Math.Seq.{take-length}
 use Rattle.std.proofs.Common.{lit<}
 use Rattle.std.proofs.lemmas.Fmt.{decimal_digit}
 use Rattle.txn_runs.specs.declared.outcome.Outcome.{Outcome}
-use Rattle.journal_core.specs.Reply.{outcome_words, commit_line}
+use Rattle.journal_core.specs.Reply.{outcome_words}
 
 -- a text without its last byte
 pub last-off : (xs : List ℕ) (b n : ℕ) → n ≡ length (xs ++ b ∷ []) → take (n - 1) (xs ++ b ∷ []) ≡ xs

@@ -1,8 +1,5 @@
 -- What a row is read as before it is set beside a journal.
 use Rattle.std.specs.Prelude.{◌≡◌, ℕ, ◌≤◌, ◌<◌, ◌^◌, List, [], ◌∷◌, codes, decimal, Option, Some, None}
-use Rattle.journal_core.specs.Reply.{outcome_words}
-use Rattle.journal_core.specs.declared.entry.Entry.{Entry}
-use Rattle.journal_core.specs.declared.entry.Entry.TheVariants as entries
 use Rattle.journal_table.specs.declared.read.Row.{Row}
 use Rattle.journal_table.specs.declared.read.Row.TheVariants.{Began, Sealed, Committed, Withdrawn}
 

@@ -1,11 +1,11 @@
 -- A journal that is taken in row by row.
-use Rattle.std.specs.Prelude.{◌≡◌, ℕ, ◌+◌, ◌<◌, ◌≤◌, Bool, true, false, List, [], ◌∷◌, ◌++◌, length, Option, Some, None, slice_get, slice_index_or}
+use Rattle.std.specs.Prelude.{◌≡◌, ℕ, ◌+◌, ◌<◌, ◌≤◌, Bool, true, false, List, [], ◌∷◌, ◌++◌, length, Some, slice_get, slice_index_or}
 use Rattle.txn_runs.specs.Run.{Tables}
 use Rattle.txn_runs.specs.Bounds.{reach}
 use Rattle.txn_runs.specs.declared.program.Program.{Program}
 use Rattle.txn_names.specs.Tables.{Named}
 use Rattle.journal_core.specs.declared.entry.Entry.{Entry}
-use Rattle.journal_core.specs.declared.entry.Entry.TheVariants.{Began, Sealed, Committed, Withdrawn}
+use Rattle.journal_core.specs.declared.entry.Entry.TheVariants.{Began}
 use Rattle.journal_core.specs.Journal.{began, has_begun, program_of, tables_after, Continues, IsLegal}
 use Rattle.journal_table.specs.Rows.{Row}
 use Rattle.journal_table.specs.Spelled.{rows_in, Spells}

@@ -1,5 +1,5 @@
 -- A journal as a table: a heading, and a row of four fields for each entry. The text of a row is what the writer of `csv` makes of it.
-use Rattle.std.specs.Prelude.{◌≡◌, ℕ, List, [], ◌∷◌, ◌++◌, map, flat_map, codes, decimal}
+use Rattle.std.specs.Prelude.{◌≡◌, ℕ, List, [], ◌∷◌, map, flat_map, codes, decimal}
 use Rattle.csv.specs.Writing.{default_writer, row_body, row_text}
 use Rattle.txn_names.specs.Tables.{Named}
 use Rattle.txn_spelling.specs.Canonical.{canonical}

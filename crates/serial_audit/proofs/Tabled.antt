@@ -27,16 +27,16 @@ bare names opening = record { entries = []; entry_rows = []; all = refl; spelled
 -- no row at all
 pub first-none : (names : List Named) (opening : Tables) (rows : List Row) → rows ≡ [] → IsFirstWrong (IsTable names opening) rows 0
 first-none names opening rows none = subst (λ rs. IsFirstWrong (IsTable names opening) rs 0) (sym none) (record {
-    before = (heading ∷ [], bare names opening);
-    wrong = inr (refl, λ t. let is = t.all in cc);
-  })
+  before = (heading ∷ [], bare names opening);
+  wrong = inr (refl, λ t. let is = t.all in cc);
+})
 
 -- another row in place of the heading
 pub first-other : (names : List Named) (opening : Tables) (rows more : List Row) (row : Row) → rows ≡ row ∷ more → row ≢ heading → IsFirstWrong (IsTable names opening) rows 0
 first-other names opening rows more row is other = subst (λ rs. IsFirstWrong (IsTable names opening) rs 0) (sym is) (record {
-    before = (heading ∷ [], bare names opening);
-    wrong = inl (omega arith, λ b. other (let same = b.1.all in cc));
-  })
+  before = (heading ∷ [], bare names opening);
+  wrong = inl (omega arith, λ b. other (let same = b.1.all in cc));
+})
 
 live-few : (opening : Tables) (entries : List Entry) (t : ℕ) → IsLegal opening entries → length entries < 2 ^ 64 → is_live entries t ≡ true → t < 2 ^ 64
 live-few opening entries t legal few is =
@@ -107,9 +107,9 @@ spelled-more names (d ∷ entries) (r ∷ rows) e row all one = (all.0, spelled-
 pub first-bad : (names : List Named) (opening : Tables) (all : List Row) (entries : List Entry) (rows more : List Row) (bad : Row) → all ≡ (heading ∷ rows ++ bad ∷ []) ++ more → AreSpelled names entries rows → IsLegal opening entries → length rows < 2 ^ 64
     → ((e : Entry) → Spells names e bad → Continues opening entries e → ⊥) → IsFirstWrong (IsTable names opening) all (length rows + 1)
 first-bad names opening all entries rows more bad is spelled legal few none = subst (λ rs. IsFirstWrong (IsTable names opening) rs (length rows + 1)) (sym is) (record {
-    before = ([], subst (IsTable names opening) (sym (append-nil (take (length rows + 1) ((heading ∷ rows ++ bad ∷ []) ++ more)) ∙ front)) (record { entries = entries; entry_rows = rows; all = refl; spelled = spelled; legal = legal }));
-    wrong = inl (within, λ b. wrong b.0 (subst (λ rs. IsTable names opening (rs ++ b.0)) whole b.1));
-  })
+  before = ([], subst (IsTable names opening) (sym (append-nil (take (length rows + 1) ((heading ∷ rows ++ bad ∷ []) ++ more)) ∙ front)) (record { entries = entries; entry_rows = rows; all = refl; spelled = spelled; legal = legal }));
+  wrong = inl (within, λ b. wrong b.0 (subst (λ rs. IsTable names opening (rs ++ b.0)) whole b.1));
+})
   where
     parts : (heading ∷ rows ++ bad ∷ []) ++ more ≡ (heading ∷ rows) ++ bad ∷ more
     parts = append_assoc (heading ∷ rows) (bad ∷ []) more

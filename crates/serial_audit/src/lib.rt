@@ -4,8 +4,10 @@
 #![tactic(auto)]
 
 mod journal;
+mod laws;
 mod verdict;
 
 pub use journal::audit_journal;
 pub use journal_table::{Replay, put_record, write_journal};
+pub use laws::written_journals;
 pub use verdict::Verdict;

@@ -1,5 +1,3 @@
-use Rattle.std.proofs.Common.{◌≡◌, ◌∙◌, sym, ap, Some, None}
-use Rattle.std.specs.Prelude.{option_map}
 use Rattle.csv.specs.Records.{fields_of}
 use Rattle.journal_table.proofs.Forms.{field-found, field-none}
 use Rattle.journal_table.proofs.read.field.Goals as goal

@@ -1,4 +1,4 @@
-use Rattle.std.proofs.Common.{◌≡◌, ◌∙◌, ◌<◌, ◌^◌, sym, ap, arith, Some, None}
+use Rattle.std.proofs.Common.{◌≡◌, ◌∙◌, sym, ap, arith, Some}
 use Rattle.std.specs.Prelude.{decimal}
 use Rattle.journal_table.proofs.Numbers.{read-decimal}
 use Rattle.journal_table.proofs.read.read_number.Goals as goal

@@ -1,4 +1,4 @@
-use Rattle.std.proofs.Common.{◌≡◌, ◌∙◌, sym, ap, subst}
+use Rattle.std.proofs.Common.{◌∙◌, sym, subst}
 use Rattle.csv.specs.Records.{fields_of}
 use Rattle.journal_table.specs.Judged.{IsRead}
 use Rattle.journal_table.proofs.Forms.{four}

@@ -1,4 +1,4 @@
-use Rattle.std.proofs.Common.{◌≡◌, ◌∙◌, ◌≤◌, ◌<◌, ◌^◌, ℕ, sym, ap, refl, arith, length, true, false, inl, inr}
+use Rattle.std.proofs.Common.{◌∙◌, ◌<◌, ◌^◌, sym, ap, refl, arith, length, inl, inr}
 use Rattle.std.proofs.lemmas.Bool.{cases_Bool}
 use Rattle.journal_core.specs.Journal.{is_live}
 use Rattle.journal_table.proofs.Numbered.{live-within, live-same}

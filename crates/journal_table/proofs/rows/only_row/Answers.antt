@@ -1,9 +1,8 @@
-use Rattle.std.proofs.Common.{Bor, ◌≡◌, ◌∙◌, ◌++◌, ◌∷◌, [], ℕ, List, Some, None, sym, refl, ap, subst, rules, true, false}
-use Rattle.csv.specs.Reading.{Reached, default_config, strip_bom, source_of, records}
+use Rattle.std.proofs.Common.{Bor, ◌≡◌, ◌∷◌, [], ℕ, List, Some, sym, refl}
+use Rattle.csv.specs.Reading.{Reached, default_config, strip_bom, records}
 use Rattle.csv.specs.Records.{fields_of}
 use Rattle.csv.specs.declared.parser.State.TheVariants as st
 use Rattle.csv.proofs.ReadFacts.{rows-end, rows-more}
-use Rattle.journal_table.specs.Spelled.{rows_in, IsReading}
 use Rattle.journal_table.proofs.RowsRead.{rows-begin, rows-all, two-rows}
 use Rattle.journal_table.proofs.rows.only_row.Goals as goal
 

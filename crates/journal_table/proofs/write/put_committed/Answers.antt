@@ -1,4 +1,3 @@
-use Rattle.std.proofs.Common.{◌≡◌, ◌∙◌}
 use Rattle.journal_table.proofs.write.put_committed.Goals as goal
 
 pub returns : goal.returns

@@ -1,4 +1,4 @@
-use Rattle.std.proofs.Common.{◌≡◌, ◌∙◌, ◌+◌, ◌++◌, ◌∷◌, [], List, Some, map, take, sym, ap, subst, length, arith}
+use Rattle.std.proofs.Common.{◌∙◌, ◌∷◌, [], Some, map, take, sym, ap, subst}
 use Rattle.std.proofs.lemmas.List.{map-append}
 use Rattle.journal_table.specs.Rows.{row_of}
 use Rattle.journal_table.specs.Writes.{PutsRows}

@@ -1,4 +1,4 @@
-use Rattle.std.proofs.Common.{◌≡◌, map, take, Some}
+use Rattle.std.proofs.Common.{map, take, Some}
 use Rattle.journal_table.specs.Rows.{row_of}
 use Rattle.journal_table.specs.Writes.{PutsRows}
 use Rattle.journal_table.proofs.write.put_entries.Given as goal

@@ -59,14 +59,16 @@ pub returns-then-not-branch-2-clause-verdict : goal.returns-then-not-branch-2-cl
 returns-then-not-branch-2-clause-verdict g c =
     let xs = strip_bom c.args.bytes.now in
     let (rows, left, spelled, number, source, reached) = c.rows.invariant.so_far in
-    let over = rows-end (λ (s : Bor (List ℕ)). Some s.now) c.rows.reader c.next_row-in-rows.new.reader (fields_of c.next_row-in-rows.new.row) default_config left c.rows.invariant.reading.config source (rw c.if-not-branch-2.true at c.in_ok-next_row-2.ensures.reads) in
-    (record {
-      entries = c.rows.replay.entries;
-      entry_rows = rows;
-      all = rows-all (heading ∷ rows) c.rows.reader.state xs left reached over;
-      spelled = spelled;
-      legal = subst (λ o. IsLegal o c.rows.replay.entries) c.rows.invariant.opening c.rows.invariant.legal;
-    }, c.commits.ensures ∙ ap (λ es. length (commits es)) c.journal.ensures.entries)
+    let over = rows-end (λ (s : Bor (List ℕ)). Some s.now) c.rows.reader c.next_row-in-rows.new.reader (fields_of c.next_row-in-rows.new.row) default_config left c.rows.invariant.reading.config source (rw c.if-not-branch-2.true at c.in_ok-next_row-2.ensures.reads) in (
+      record {
+        entries = c.rows.replay.entries;
+        entry_rows = rows;
+        all = rows-all (heading ∷ rows) c.rows.reader.state xs left reached over;
+        spelled = spelled;
+        legal = subst (λ o. IsLegal o c.rows.replay.entries) c.rows.invariant.opening c.rows.invariant.legal;
+      },
+      c.commits.ensures ∙ ap (λ es. length (commits es)) c.journal.ensures.entries,
+    )
 
 pub returns-then-not-branch-3-clause-verdict : goal.returns-then-not-branch-3-clause-verdict
 returns-then-not-branch-3-clause-verdict g c =
@@ -76,9 +78,12 @@ returns-then-not-branch-3-clause-verdict g c =
     let (z, further, all) = rows-more (λ (s : Bor (List ℕ)). Some s.now) c.rows.reader c.next_row-in-rows.new.reader bad default_config st.StartRecord xs left (heading ∷ rows) c.rows.invariant.reading.config source reached (rw c.if-not-branch-2.false at c.in_ok-next_row-2.ensures.reads) in
     let (more, whole) = rows-begin (heading ∷ rows ++ bad ∷ []) c.next_row-in-rows.new.reader.state xs z all in
     let none = rw c.if-not-branch-3.true at c.in_ok-take.ensures.takes in
-    let within = c.rows-test.true in
-    (length rows + 1, omega (arith, number), subst (λ o. IsFirstWrong (IsTable c.args.names.now o) (rows_in c.args.bytes.now) (length rows + 1)) c.rows.invariant.opening
-      (first-bad c.args.names.now c.rows.replay.opening (rows_in c.args.bytes.now) c.rows.replay.entries rows more bad whole spelled c.rows.invariant.legal (omega (arith, number, within)) none.0))
+    let within = c.rows-test.true in (
+      length rows + 1,
+      omega (arith, number),
+      subst (λ o. IsFirstWrong (IsTable c.args.names.now o) (rows_in c.args.bytes.now) (length rows + 1)) c.rows.invariant.opening
+          (first-bad c.args.names.now c.rows.replay.opening (rows_in c.args.bytes.now) c.rows.replay.entries rows more bad whole spelled c.rows.invariant.legal (omega (arith, number, within)) none.0),
+    )
 
 pub rows-preserved : goal.rows-preserved
 rows-preserved g c =

@@ -1,12 +1,12 @@
-use Rattle.std.proofs.Common.{◌≡◌, ◌∙◌, ◌++◌, ◌∷◌, ◌+◌, ◌≤◌, ◌<◌, ◌^◌, [], ℕ, List, length, sym, refl, ap, subst, arith, false, true}
+use Rattle.std.proofs.Common.{◌≡◌, ◌∙◌, ◌++◌, ◌∷◌, ◌+◌, ◌≤◌, [], length, sym, refl, ap, subst, arith, false, true}
 use Rattle.std.specs.Prelude.{decimal}
 use Rattle.std.proofs.lemmas.Fmt.{decimal_injective}
 use Rattle.txn_runs.specs.Bounds.{reach}
 use Rattle.journal_core.specs.declared.entry.Entry.TheVariants.{Began}
 use Rattle.journal_core.specs.Journal.{Continues, began, is_sealed}
-use Rattle.journal_table.specs.Replayed.{Replayed, IsKept}
+use Rattle.journal_table.specs.Replayed.{Replayed}
 use Rattle.journal_table.proofs.Keeping.{kept-begin}
-use Rattle.journal_table.proofs.Only.{SaysBegan, only-began}
+use Rattle.journal_table.proofs.Only.{only-began}
 use Rattle.journal_table.proofs.replay.Replay.begin.Goals as goal
 
 pub returns-then-sealed-clause-takes : goal.returns-then-sealed-clause-takes

@@ -1,13 +1,12 @@
-use Rattle.std.proofs.Common.{◌≡◌, ◌∙◌, ◌++◌, ◌∷◌, ◌+◌, ◌-◌, ◌≤◌, ◌<◌, [], ℕ, List, length, get_or, sym, refl, ap, subst, arith}
+use Rattle.std.proofs.Common.{◌≡◌, ◌∙◌, ◌++◌, ◌∷◌, ◌≤◌, [], sym, refl, ap, subst, arith}
 use Rattle.std.specs.Prelude.{decimal}
 use Rattle.txn_runs.specs.Bounds.{reach}
-use Rattle.txn_runs.specs.Serial.{outcome_of, effect_of, over}
+use Rattle.txn_runs.specs.Serial.{outcome_of}
 use Rattle.journal_core.specs.declared.entry.Entry.TheVariants.{Committed}
-use Rattle.journal_core.specs.Journal.{Continues, program_of, has_begun, is_live, tables_after}
+use Rattle.journal_core.specs.Journal.{Continues, program_of, tables_after}
 use Rattle.journal_core.specs.Reply.{outcome_words}
-use Rattle.journal_table.specs.Replayed.{IsBegin, IsKept}
-use Rattle.journal_table.proofs.Keeping.{Begun, kept-commit, begun-here}
-use Rattle.journal_table.proofs.Only.{SaysCommitted, only-committed}
+use Rattle.journal_table.proofs.Keeping.{kept-commit, begun-here}
+use Rattle.journal_table.proofs.Only.{only-committed}
 use Rattle.journal_table.proofs.replay.Replay.commit.Goals as goal
 
 pub overflow_sub-txn : goal.overflow_sub-txn

@@ -1,4 +1,4 @@
-use Rattle.std.proofs.Common.{◌≡◌, ◌∙◌, sym, refl, ap, subst, arith}
+use Rattle.std.proofs.Common.{sym, refl, subst, arith}
 use Rattle.journal_table.proofs.Numbered.{none-follows}
 use Rattle.csv.specs.Records.{fields_of}
 use Rattle.std.specs.Result.{IfOk}

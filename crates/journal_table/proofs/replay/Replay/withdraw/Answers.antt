@@ -1,7 +1,5 @@
-use Rattle.std.proofs.Common.{◌≡◌, ◌∙◌, ◌++◌, ◌∷◌, [], sym, refl, ap}
-use Rattle.std.specs.Prelude.{decimal}
+use Rattle.std.proofs.Common.{◌∙◌, ◌++◌, ◌∷◌, [], sym, refl, ap}
 use Rattle.journal_core.specs.declared.entry.Entry.TheVariants.{Withdrawn}
-use Rattle.journal_core.specs.Journal.{Continues}
 use Rattle.journal_table.proofs.Keeping.{kept-other}
 use Rattle.journal_table.proofs.replay.Replay.withdraw.Goals as goal
 
