@@ -1,23 +1,21 @@
 -- The verdict on the rows of a journal.
-use Rattle.std.proofs.Common.{◌≡◌, ◌≢◌, ◌≤◌, ◌<◌, ◌^◌, ℕ, zero, suc, ◌+◌, List, [], ◌∷◌, ◌++◌, length, take, Ok, true, refl, sym, ap, subst, ◌∙◌, arith, inl, inr, append_assoc, length-append}
-use Rattle.std.specs.Prelude.{codes, decimal}
-use Rattle.std.proofs.lemmas.List.{append-nil, take_all, take_at}
+use Rattle.std.proofs.Common.{◌≡◌, ◌≢◌, ◌<◌, ◌^◌, ℕ, ◌+◌, List, [], ◌∷◌, ◌++◌, length, take, true, refl, sym, ap, subst, ◌∙◌, arith, inl, inr, append_assoc, length-append}
+use Rattle.std.specs.Prelude.{decimal}
+use Rattle.std.proofs.lemmas.List.{append-nil, take_at}
 use Rattle.std.proofs.lemmas.List.Sums.{count_by-le-length}
 use Rattle.std.proofs.lemmas.Fmt.{decimal_injective}
 use Rattle.txn_runs.specs.Run.{Tables}
 use Rattle.txn_runs.specs.Serial.{outcome_of}
-use Rattle.txn_runs.specs.declared.program.Program.{Program}
-use Rattle.txn_runs.specs.declared.outcome.Outcome.{Outcome}
 use Rattle.txn_names.specs.Tables.{Named}
 use Rattle.journal_core.specs.declared.entry.Entry.{Entry}
 use Rattle.journal_core.specs.declared.entry.Entry.TheVariants.{Began, Sealed, Committed, Withdrawn}
-use Rattle.journal_core.specs.Journal.{is_begin, began, is_live, program_of, tables_after, Continues, IsLegal, IsLegalFrom}
+use Rattle.journal_core.specs.Journal.{is_begin, is_live, program_of, tables_after, Continues, IsLegal, IsLegalFrom}
 use Rattle.journal_core.specs.Reply.{outcome_words}
 use Rattle.journal_core.proofs.Legal.{counts, begun-live, legal-push}
 use Rattle.journal_table.specs.Rows.{Row, heading}
 use Rattle.journal_table.specs.Spelled.{Spells, AreSpelled}
-use Rattle.journal_table.proofs.Only.{SaysBegan, SaysCommitted, SaysWithdrawn, only-began, only-committed, only-withdrawn, only-sealed}
-use Rattle.serial_audit.specs.Judging.{IsBegun, IsFirstWrong}
+use Rattle.journal_table.proofs.Only.{only-began, only-committed, only-withdrawn, only-sealed}
+use Rattle.serial_audit.specs.Judging.{IsFirstWrong}
 use Rattle.serial_audit.specs.Tables.{IsTable}
 
 -- an empty journal

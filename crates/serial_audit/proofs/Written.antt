@@ -1,9 +1,9 @@
 -- What is written is read back.
-use Rattle.std.proofs.Common.{◌≡◌, ◌≤◌, ℕ, List, [], ◌∷◌, ◌++◌, length, map, flat_map, Some, refl, sym, ap, subst, ◌∙◌}
+use Rattle.std.proofs.Common.{◌≡◌, ℕ, List, [], ◌∷◌, length, map, flat_map, Some, refl, ap, ◌∙◌}
 use Rattle.std.specs.List.{AllByRecursion}
 use Rattle.csv.specs.Machine.{next_record}
 use Rattle.csv.specs.Reading.{Reached, default_config, records, strip_bom}
-use Rattle.csv.specs.Writing.{default_writer, row_text, fields_text, is_blank, escaped, read_back}
+use Rattle.csv.specs.Writing.{default_writer, row_text, fields_text, is_blank, read_back}
 use Rattle.csv.specs.declared.parser.State.TheVariants as st
 use Rattle.csv.proofs.RoundTrip.{read-write}
 use Rattle.txn_runs.specs.Run.{Tables}
@@ -13,7 +13,7 @@ use Rattle.txn_spelling.proofs.ReadBack.{read_back as read-canonical}
 use Rattle.journal_core.specs.declared.entry.Entry.{Entry}
 use Rattle.journal_core.specs.declared.entry.Entry.TheVariants.{Began, Sealed, Committed, Withdrawn}
 use Rattle.journal_core.specs.Journal.{commits, IsLegal}
-use Rattle.journal_table.specs.Rows.{Row, heading, row_of, rows_of, journal_text}
+use Rattle.journal_table.specs.Rows.{heading, row_of, rows_of, journal_text}
 use Rattle.journal_table.specs.Spelled.{rows_in, Spells, AreSpelled}
 use Rattle.journal_table.proofs.RowsRead.{rows-all}
 use Rattle.serial_audit.specs.Tables.{IsTable}

@@ -1,12 +1,12 @@
-use Rattle.std.proofs.Common.{Bor, ◌≡◌, ◌∙◌, ◌≢◌, ◌+◌, ◌≤◌, ◌<◌, ◌^◌, ◌++◌, ◌∷◌, [], ℕ, List, Some, None, length, sym, refl, ap, subst, rules, true, false, arith, length-append}
-use Rattle.csv.specs.Reading.{Reached, default_config, strip_bom, source_of, records}
+use Rattle.std.proofs.Common.{Bor, ◌≡◌, ◌∙◌, ◌+◌, ◌++◌, ◌∷◌, [], ℕ, List, Some, length, sym, refl, ap, subst, arith, length-append}
+use Rattle.csv.specs.Reading.{Reached, default_config, strip_bom}
 use Rattle.csv.specs.Records.{fields_of}
 use Rattle.csv.specs.declared.parser.State.TheVariants as st
 use Rattle.csv.proofs.ReadFacts.{rows-end, rows-more}
 use Rattle.journal_core.specs.Journal.{commits, IsLegal}
 use Rattle.journal_core.proofs.Legal.{legal-push}
 use Rattle.journal_table.specs.Rows.{heading}
-use Rattle.journal_table.specs.Spelled.{rows_in, IsReading, AreSpelled}
+use Rattle.journal_table.specs.Spelled.{rows_in}
 use Rattle.journal_table.proofs.RowsRead.{rows-begin, rows-all}
 use Rattle.serial_audit.specs.Judging.{IsFirstWrong}
 use Rattle.serial_audit.specs.Tables.{IsTable}
