@@ -61,10 +61,13 @@ all-spelled names (e ∷ entries) is w = (spells names e is w.0, all-spelled nam
 -- the text of a legal journal is that of a table with the same commits
 pub written-table : (names : List Named) (opening : Tables) (entries : List Entry) → IsNames names → IsLegal opening entries → AllByRecursion (IsWritten names) entries
     → (t : IsTable names opening (rows_in (journal_text names entries))) × (length (commits entries) ≡ length (commits t.entries))
-written-table names opening entries is legal w = (record {
-      entries = entries;
-      entry_rows = map (row_of names) entries;
-      all = rows-back names entries;
-      spelled = all-spelled names entries is w;
-      legal = legal;
-    }, refl)
+written-table names opening entries is legal w = (
+  record {
+    entries = entries;
+    entry_rows = map (row_of names) entries;
+    all = rows-back names entries;
+    spelled = all-spelled names entries is w;
+    legal = legal;
+  },
+  refl,
+)
