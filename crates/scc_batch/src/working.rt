@@ -81,16 +81,17 @@ fn fan_out<R: Threads + Wait + Sync, G: Gate + Sync>(
     }
     let mut rest = pass;
     let mine = cell.split(&mut rest);
-    let (mut rest, mine) = thread::join(
+    // The first goes to the new thread, so that this one starts all.
+    let (mine, mut rest) = thread::join(
         rt,
-        || -> Pass<Forest>
-            requires { IsOf rest cell.now × (length benches.items ≤ 4294967295) × (length benches.items ≤ seats_of rest) × All (IsFreeFor (items_in (seen_by rest))) benches.items × IsSync R.row × IsSync G.row }
-            ensures { IsOf result cell.entry.now × (seats_of result ≡ seats_of rest) × IsPrefix (seen_by rest) (seen_by result) }
-        { fan_out(rt, cell, rest, benches, gate) },
         || -> Pass<Forest>
             requires { IsOf mine cell.now × IsFreeFor (items_in (seen_by mine)) bench }
             ensures { IsOf result cell.entry.now × (seats_of result ≡ seats_of mine) × IsPrefix (seen_by mine) (seen_by result) }
         { work_with(rt, cell, mine, bench, worker, gate) },
+        || -> Pass<Forest>
+            requires { IsOf rest cell.now × (length benches.items ≤ 4294967295) × (length benches.items ≤ seats_of rest) × All (IsFreeFor (items_in (seen_by rest))) benches.items × IsSync R.row × IsSync G.row }
+            ensures { IsOf result cell.entry.now × (seats_of result ≡ seats_of rest) × IsPrefix (seen_by rest) (seen_by result) }
+        { fan_out(rt, cell, rest, benches, gate) },
     );
     cell.join(&mut rest, mine);
     rest

@@ -1,8 +1,0 @@
-use Rattle.std.proofs.Common.{◌+◌, ◌*◌, length}
-use Rattle.scc_batch.proofs.working.+fan_out+fn-fan_out-join+arg2.Given as goal
-
-abbrev pub decreases-fan_out : goal.decreases-fan_out
-decreases-fan_out g l = 2 * length l.benches.items
-
-abbrev pub decreases-join+arg2 : goal.decreases-join+arg2
-decreases-join+arg2 g l = 2 * length l.benches.items + 1
