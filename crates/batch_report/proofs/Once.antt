@@ -1,11 +1,11 @@
 -- Journals in which each transaction is committed once.
-use Rattle.std.proofs.Common.{◌≡◌, ◌↔◌, ◌≤◌, ℕ, ◌==◌, ◌&&◌, ◌||◌, Bool, true, false, not, List, [], ◌∷◌, ◌++◌, refl, sym, ap, ◌∙◌, subst, append_assoc, true≢false}
+use Rattle.std.proofs.Common.{◌≡◌, ℕ, ◌==◌, ◌&&◌, ◌||◌, Bool, true, false, not, List, [], ◌∷◌, ◌++◌, refl, sym, ap, ◌∙◌, subst, append_assoc, true≢false}
 use Rattle.std.proofs.lemmas.List.{append-nil}
-use Rattle.std.specs.List.{AllByRecursion, list_any}
+use Rattle.std.specs.List.{list_any}
 use Rattle.txn_runs.specs.Run.{Tables}
 use Rattle.journal_core.specs.declared.entry.Entry.{Entry}
 use Rattle.journal_core.specs.declared.entry.Entry.TheVariants.{Began, Sealed, Committed, Withdrawn}
-use Rattle.journal_core.specs.Journal.{is_commit_of, has_begun, has_ended, is_withdrawn, is_sealed, is_seal, is_live, began, commits, Continues, IsLegal, IsLegalFrom}
+use Rattle.journal_core.specs.Journal.{has_begun, has_ended, is_withdrawn, is_sealed, is_seal, is_live, began, commits, IsLegal, IsLegalFrom}
 use Rattle.journal_core.proofs.Legal.{is_sealed-push, counts}
 use Rattle.journal_core.proofs.Begins.{commits-distinct}
 use Rattle.batch_report.specs.Order.{NamesEachOnce, AreCommits}

@@ -1,17 +1,15 @@
 -- The commits of a journal, and those of the serial run of its programs.
-use Rattle.std.proofs.Common.{◌≡◌, ℕ, ◌+◌, ◌++◌, List, [], ◌∷◌, length, take, drop, map, flat_map, Option, Some, refl, ap, sym, ◌∙◌, append_assoc, add-one, arith}
-use Rattle.std.specs.List.{zip, slice_get, AllByRecursion}
+use Rattle.std.proofs.Common.{◌≡◌, ℕ, ◌+◌, ◌++◌, List, [], ◌∷◌, length, take, map, Some, refl, ap, sym, ◌∙◌, add-one}
+use Rattle.std.specs.List.{zip, slice_get}
 use Rattle.std.proofs.lemmas.Grind.{flat_map-append}
-use Rattle.std.proofs.lemmas.List.{append-nil}
-use Rattle.std.proofs.Math.Seq.{drop-cons, drop-length, take-suc}
+use Rattle.std.proofs.Math.Seq.{take-suc}
 use Rattle.std.proofs.lemmas.Option.{slice_get_within, get_or_from_slice_get}
 use Rattle.txn_runs.specs.Run.{Tables}
 use Rattle.txn_runs.specs.Serial.{outcomes, last_tables}
 use Rattle.txn_runs.specs.declared.program.Program.{Program}
-use Rattle.txn_runs.specs.declared.outcome.Outcome.{Outcome}
 use Rattle.txn_names.specs.Tables.{Named}
 use Rattle.journal_core.specs.declared.entry.Entry.{Entry}
-use Rattle.journal_core.specs.Journal.{IsLegal, program_of, commits, replies, committed_programs, tables_after}
+use Rattle.journal_core.specs.Journal.{IsLegal, program_of, commits, committed_programs, tables_after}
 use Rattle.journal_core.specs.Numbered.{program_named}
 use Rattle.journal_core.specs.Begins.{begins, commit_replies}
 use Rattle.journal_core.specs.Reply.{commit_line}

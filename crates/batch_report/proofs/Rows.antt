@@ -1,19 +1,16 @@
 -- The lines of a report, and what each names.
-use Rattle.std.proofs.Common.{◌≡◌, ◌≢◌, ◌≤◌, ◌<◌, ◌^◌, ℕ, zero, suc, ◌+◌, ◌*◌, ◌-◌, ◌==◌, ◌&&◌, Bool, true, false, nat_le, nat_lt, if◌then◌else◌, List, [], ◌∷◌, ◌++◌, length, take, drop, slice_range, Option, Some, None, refl, sym, ap, ◌∙◌, append_assoc, arith, true≢false, eqb-true, lt-ltb, le-ltb, le-leb}
-use Rattle.std.specs.Prelude.{codes, decimal, bytes_eq}
+use Rattle.std.proofs.Common.{◌≡◌, ◌<◌, ◌^◌, ℕ, ◌+◌, ◌*◌, ◌-◌, ◌==◌, ◌&&◌, Bool, true, false, nat_lt, if◌then◌else◌, List, [], ◌∷◌, ◌++◌, length, Some, None, refl, ap, ◌∙◌, append_assoc, arith, eqb-true, lt-ltb, le-ltb, le-leb}
+use Rattle.std.specs.Prelude.{codes, decimal}
 use Rattle.std.specs.Char.{digit_value}
-use Rattle.std.specs.Str.Parse.{digits_value, digits_value_after}
+use Rattle.std.specs.Str.Parse.{digits_value_after}
 use Rattle.std.specs.List.{AllByRecursion, list_all}
 use Rattle.std.specs.Char.{is_ascii_digit}
 use Rattle.std.proofs.lemmas.Fmt.{decimal_is_IsNumeral, decimal_nonempty}
 use Rattle.txn_runs.specs.Run.{Tables}
 use Rattle.txn_runs.specs.declared.outcome.Outcome.{Outcome}
-use Rattle.txn_names.specs.Tables.{Named}
 use Rattle.scc_text.specs.Number.{natural_of, is_natural, number_of, number_from, numbers}
-use Rattle.journal_core.specs.Reply.{outcome_words, commit_line}
-use Rattle.scc_replies.specs.Lines.{final_line}
-use Rattle.scc_replies.specs.Finals.{final_lines}
-use Rattle.serial_text.proofs.Cuts.{IsDigit, IsWithout, decimal-digits, decimal-without, unlines}
+use Rattle.journal_core.specs.Reply.{outcome_words}
+use Rattle.serial_text.proofs.Cuts.{IsDigit, IsWithout, decimal-digits, decimal-without}
 use Rattle.batch_report.specs.Order.{first_word, commit_number}
 
 -- Numbers read back.

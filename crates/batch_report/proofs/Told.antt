@@ -1,7 +1,7 @@
 -- The order of a report is that of its lines.
-use Rattle.std.proofs.Common.{◌≡◌, ℕ, zero, suc, ◌+◌, List, [], ◌∷◌, ◌++◌, length, map, slice_range, Option, Some, None, refl, sym, ap, ◌∙◌, append_assoc, arith}
+use Rattle.std.proofs.Common.{◌≡◌, ℕ, ◌+◌, List, [], ◌∷◌, ◌++◌, length, map, slice_range, refl, sym, ap, ◌∙◌, append_assoc}
 use Rattle.std.specs.Prelude.{codes, decimal, filter_map}
-use Rattle.std.specs.List.{AllByRecursion, zip, cons_option}
+use Rattle.std.specs.List.{zip, cons_option}
 use Rattle.std.proofs.lemmas.List.{append-nil}
 use Rattle.txn_runs.specs.Run.{Tables}
 use Rattle.txn_runs.specs.Serial.{outcome_of, effect_of, over, outcomes, last_tables}
@@ -18,7 +18,7 @@ use Rattle.scc_replies.specs.Finals.{final_lines}
 use Rattle.serial_text.proofs.Cuts.{IsWithout, numbers-without, without-append, lacks, lacking, unlines, unlines-append, AreLines, lines-append}
 use Rattle.serial_text.proofs.Reading.{outcome-without, row-without}
 use Rattle.batch_report.specs.Order.{commit_number, order_of, NamesFit, NumbersFit}
-use Rattle.batch_report.specs.Report.{numbered, in_order, commit_lines, report}
+use Rattle.batch_report.specs.Report.{numbered, commit_lines, report}
 use Rattle.batch_report.proofs.Rows.{commit_row, commit-named, final_row, final-named, end-named}
 
 -- Lines.

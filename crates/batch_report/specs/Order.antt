@@ -1,5 +1,5 @@
 -- The order of a report, as it is read off its text.
-use Rattle.std.specs.Prelude.{ℕ, ◌^◌, ◌<◌, ◌≢◌, ◌≡◌, ◌≤◌, ◌↔◌, ◌==◌, Bool, true, false, List, [], ◌∷◌, take, drop, Option, Some, None, if◌then◌else◌, codes, bytes_eq, filter_map}
+use Rattle.std.specs.Prelude.{ℕ, ◌^◌, ◌<◌, ◌≢◌, ◌≡◌, ◌≤◌, ◌↔◌, ◌==◌, Bool, true, false, List, [], ◌∷◌, take, drop, Option, None, if◌then◌else◌, codes, bytes_eq, filter_map}
 use Rattle.std.specs.List.{AllByRecursion, list_any}
 use Rattle.txn_names.specs.Tables.{Named}
 use Rattle.journal_core.specs.declared.entry.Entry.{Entry}

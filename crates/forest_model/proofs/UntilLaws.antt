@@ -1,12 +1,11 @@
 -- The steps of a drain up to its next commit: they come to an end, and the drain goes on from there.
-use Rattle.std.proofs.Common.{◌≡◌, ℕ, zero, suc, ◌+◌, ◌<◌, ◌≤◌, Option, Some, None, refl, ap, sym, ◌∙◌, subst, arith}
+use Rattle.std.proofs.Common.{◌≡◌, ℕ, zero, suc, ◌+◌, ◌≤◌, Option, Some, None, refl, ap, sym, ◌∙◌, arith}
 use Rattle.block_rule.specs.declared.role.Row.{Row}
 use Rattle.forest_model.specs.Forest.{Forest}
 use Rattle.forest_model.specs.Pick.{pick}
 use Rattle.forest_model.specs.Sound.{IsSound}
 use Rattle.forest_model.specs.Work.{work}
-use Rattle.forest_model.specs.Events.{commit}
-use Rattle.forest_model.specs.Drain.{step_row, counted, first_ended, after_commit, drain_by, drain_step, drain_from, until_from, until_within, until_commit, drain_rest}
+use Rattle.forest_model.specs.Drain.{step_row, counted, first_ended, drain_by, drain_step, drain_from, until_from, until_within, until_commit, drain_rest}
 use Rattle.forest_model.specs.Stays.{Leads}
 use Rattle.forest_model.proofs.IdleLaws.{IsPickStep, pick-step, no_pick}
 use Rattle.forest_model.proofs.DrainLaws.{drain-unrolled}

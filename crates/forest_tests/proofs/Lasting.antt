@@ -20,7 +20,7 @@ use Rattle.forest_model.specs.Jobs.{Job, job_of, taken, recall, give}
 use Rattle.forest_model.specs.Drain.{after_step, after_commit, run_idle, first_ended, drain_by, drain_step, gate_by, gate_step, state_of, drain}
 use Rattle.forest_model.specs.Runs.{reads, is_local}
 use Rattle.forest_model.specs.declared.did.Did.{Did}
-use Rattle.forest_model.specs.World.{Held, World, Event, Begin, Seal, Step, Commit, Withdraw, happens, all_happen, IsHeld, IsFit}
+use Rattle.forest_model.specs.World.{Held, World, Event, Begin, Seal, Step, Commit, Withdraw, all_happen, IsHeld, IsFit}
 use Rattle.forest_model.specs.Laws.{is_step, is_step_or_commit}
 use Rattle.forest_model.specs.Sound.{IsSound}
 use Rattle.forest_model.proofs.StepLaws.{if_runnable-all, if_started-all, recall-sound}

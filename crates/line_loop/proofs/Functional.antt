@@ -8,7 +8,7 @@ use Rattle.scc_text.specs.Lines.{lines_of, whole_lines, within_limit}
 use Rattle.scc_text.specs.Reader.{Reader}
 use Rattle.scc_text.specs.LinesRead.{LinesRead}
 use Rattle.scc_text.proofs.Asked.{Consumes-nil}
-use Rattle.line_loop.specs.Account.{Exchange, lines_in, replies_in, steps_in, Follows, GoesThrough, Replied, Broke, EndBroke, IsBreak, AtLine, AtEnd, AtWhole, Closes, Looped}
+use Rattle.line_loop.specs.Account.{Exchange, lines_in, replies_in, steps_in, Follows, GoesThrough, IsBreak, Closes, Looped}
 use Rattle.line_loop.specs.Meaning.{Meaning, behaviour_of, machine_after, replies_from, steps_from, script_text, stepped, whole_text, whole_stepped, Ran, WrotePart}
 use Rattle.line_loop.specs.declared.flow.Flow.{Flow}
 use Rattle.line_loop.specs.declared.flow.Flow.TheVariants.{GoOn, WorkOn, Stop}

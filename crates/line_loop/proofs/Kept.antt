@@ -1,7 +1,7 @@
 -- What each answer, work and want of memory keeps is kept by the whole loop.
 use Rattle.std.proofs.Common.{◌≡◌, inl, inr, ℕ, List, [], ◌∷◌, Option, sym, subst}
 use Rattle.scc_text.specs.Reader.{Reader}
-use Rattle.line_loop.specs.Account.{Behaviour, Exchange, lines_in, Follows, GoesThrough, Closes, Looped}
+use Rattle.line_loop.specs.Account.{Behaviour, Exchange, Follows, GoesThrough, Closes, Looped}
 use Rattle.line_loop.specs.declared.flow.Flow.{Flow}
 use Rattle.line_loop.specs.declared.flow.Flow.TheVariants.{GoOn, WorkOn, Stop}
 use Rattle.line_loop.specs.declared.ending.Ending.{Ending}

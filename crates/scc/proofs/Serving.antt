@@ -1,5 +1,5 @@
 -- What each mode has done is what the top calls promise of it.
-use Rattle.std.proofs.Common.{◌≡◌, ◌≢◌, ℕ, zero, suc, List, [], ◌∷◌, length, codes, get_or, Option, Some, None, refl, sym, ap, ◌∙◌, subst, arith}
+use Rattle.std.proofs.Common.{◌≡◌, ◌≢◌, ℕ, List, [], length, get_or, Option, Some, None, sym, ap, ◌∙◌, subst, arith}
 use Rattle.scc_ports.specs.Ports.{Rose}
 use Rattle.scc_replies.specs.declared.status.Status.{Status}
 use Rattle.scc_replies.specs.declared.status.Status.TheVariants as status
@@ -10,7 +10,6 @@ use Rattle.scc_script.specs.Ran.{ScriptRan, status_of}
 use Rattle.serial_text.specs.Told.{PrintedSerially}
 use Rattle.scc_batch.specs.Told.{Batched}
 use Rattle.scc_batch.proofs.Ends.{never-bad-words, never-audit}
-use Rattle.scc.specs.declared.words.Mode.{Mode}
 use Rattle.scc.specs.declared.words.Mode.TheVariants as mode
 use Rattle.scc.specs.Generated.{HasGenerated}
 use Rattle.scc.specs.Words.{SpellsNumber, SpellsScript, SpellsBatch, SpellsGen, Spells, SpellsAlone}

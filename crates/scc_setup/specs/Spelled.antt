@@ -1,5 +1,5 @@
 -- The command that a line spells, as far as the modes know it.
-use Rattle.std.specs.Prelude.{ℕ, Bool, true, false, if◌then◌else◌, List, [], ◌∷◌, Result, Err, bytes_eq, codes}
+use Rattle.std.specs.Prelude.{ℕ, Bool, false, if◌then◌else◌, List, [], ◌∷◌, Result, Err, bytes_eq, codes}
 use Rattle.scc_text.specs.declared.command.Dialect.{Dialect}
 use Rattle.scc_text.specs.declared.command.Dialect.TheVariants as dialects
 use Rattle.scc_text.specs.declared.command.Command.{Command}

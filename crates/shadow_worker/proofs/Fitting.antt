@@ -1,5 +1,5 @@
 -- A bench that fits what was seen fits a turn, and fits afterwards.
-use Rattle.std.proofs.Common.{◌≡◌, ℕ, true, List, Option, Some, None, refl, ap, sym, ◌∙◌, subst, true≢false}
+use Rattle.std.proofs.Common.{◌≡◌, true, List, Option, Some, None, refl, ap, sym, ◌∙◌, subst, true≢false}
 use Rattle.std.specs.Prelude.{IfSome}
 use Rattle.journal_core.specs.Journal.{is_live}
 use Rattle.journal_core.specs.declared.entry.Entry.{Entry}

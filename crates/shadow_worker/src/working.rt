@@ -19,10 +19,17 @@ use turn_cell::{Pass, TurnCell};
 /// How many local steps of a job are made outside a turn.
 const MOST_LOCAL: u32 = 100_000;
 
-/// How often a worker looks before it draws a ticket at a cell that is busy: first it lets others run, then it stays away in between.
+/// From how many local steps on a run outside turns is long.
+const LONG: u32 = 10_000;
+
+/// How often a worker that finds the cell busy lets others run, before it stays away in between.
 const YIELDS: u32 = 4;
 
-const LOOKS: u32 = 20;
+/// How often one does that comes from a long run: others have long runs then too, and their turns are soon over.
+const LONG_YIELDS: u32 = 64;
+
+/// How often it stays away, before it draws a ticket at a cell that is busy still.
+const RESTS: u32 = 16;
 
 /// How long it stays away each time, in microseconds.
 const REST: u64 = 100;
@@ -158,34 +165,44 @@ fn go_on<R: Wait, G: Gate, L: Ledger>(
     ensures items { bench.new.items ≡ bench.old.items }
     ensures job { IsSameJob bench.old.outside bench.new.outside }
 {
-    run_outside(bench, worker, gate, steps);
+    let made = run_outside(bench, worker, gate, steps);
     if let After::Idle = after {
         cell.stay_away(rt, Duration::from_micros(REST));
     }
-    wait_while_busy(rt, cell);
+    let yields = if made < LONG { YIELDS } else { LONG_YIELDS };
+    wait_while_busy(rt, cell, yields);
 }
 
-// The bench's job, if it has one, passes the gate, and then makes its local steps.
-fn run_outside<G: Gate, L: Ledger>(bench: &mut Bench, worker: u32, gate: &G, steps: &mut Steps<L>)
+// The bench's job, if it has one, passes the gate, and then makes its local steps. Answers their number.
+fn run_outside<G: Gate, L: Ledger>(
+    bench: &mut Bench,
+    worker: u32,
+    gate: &G,
+    steps: &mut Steps<L>,
+) -> u32
     ensures items { bench.new.items ≡ bench.old.items }
     ensures job { IsSameJob bench.old.outside bench.new.outside }
+    ensures ticks { steps.new ≡ steps.old + result }
 {
     if let Some(job) = bench.job() {
         gate.pass(worker, job.txn);
-        bench.run_local(MOST_LOCAL, steps);
+        return bench.run_local(MOST_LOCAL, steps);
     }
+    0
 }
 
 // Waits for the cell to be free, but not for long: whoever draws a ticket while another works makes that one wake it.
-fn wait_while_busy<R: Wait>(rt: &R, cell: &TurnCell<Forest>) {
-    for look in 0..LOOKS {
+fn wait_while_busy<R: Wait>(rt: &R, cell: &TurnCell<Forest>, yields: u32) {
+    for _ in 0..yields {
         if !cell.is_busy() {
             return;
         }
-        if look < YIELDS {
-            thread::yield_now();
-        } else {
-            cell.stay_away(rt, Duration::from_micros(REST));
+        thread::yield_now();
+    }
+    for _ in 0..RESTS {
+        if !cell.is_busy() {
+            return;
         }
+        cell.stay_away(rt, Duration::from_micros(REST));
     }
 }

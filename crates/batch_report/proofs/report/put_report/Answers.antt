@@ -1,4 +1,4 @@
-use Rattle.std.proofs.Common.{◌≡◌, ℕ, ◌++◌, List, length, ap, ◌∙◌, append_assoc}
+use Rattle.std.proofs.Common.{ℕ, ◌++◌, List, length, ap, ◌∙◌, append_assoc}
 use Rattle.journal_core.specs.Journal.{commits}
 use Rattle.journal_core.specs.Begins.{commit_replies}
 use Rattle.scc_replies.specs.Lines.{end_line}

@@ -1,5 +1,4 @@
-use Rattle.std.proofs.Common.{[], refl, subst}
-use Rattle.line_loop.specs.Meaning.{Ran}
+use Rattle.std.proofs.Common.{[], refl}
 use Rattle.line_loop.specs.declared.ending.Ending.TheVariants.{OutOfMemory}
 use Rattle.line_loop.proofs.Functional.{ran_nothing}
 use Rattle.scc_text.specs.declared.command.Dialect.TheVariants as dialect
