@@ -14,7 +14,7 @@ use Rattle.shadow_forest.specs.declared.kept.Item.{Item}
 use Rattle.shadow_forest.specs.declared.kept.Item.TheVariants.{Opening, Happened}
 use Rattle.shadow_worker.specs.Worked.{IsBegunIn, Fits, owner, IsSameJob}
 
-entries-happened : (es : List Entry) → filter_map entry_in (map happened es) ≡ es
+pub entries-happened : (es : List Entry) → filter_map entry_in (map happened es) ≡ es
 entries-happened [] = refl
 entries-happened (e ∷ es) = ap (λ xs. e ∷ xs) (entries-happened es)
 

@@ -39,13 +39,13 @@ use Rattle.shadow_worker.specs.Turn.{given_view}
 use Rattle.shadow_worker.specs.Worked.{IsAtMostCommitted}
 
 -- the same numbers of shadows and lanes
-abbrev IsBound : Forest → Forest → Type 0
+abbrev pub IsBound : Forest → Forest → Type 0
 IsBound f g = (g.k ≡ f.k) × (g.lanes ≡ f.lanes)
 
-abbrev list_of : Tables → ℕ → ℕ → List Entry → List Item
+abbrev pub list_of : Tables → ℕ → ℕ → List Entry → List Item
 list_of tables k lanes journal = Opening tables k lanes ∷ map happened journal
 
-list-grown : (f g : Forest) (more : List Entry) → IsBound f g → IsGrown f g more → list_of g.opening g.k g.lanes g.journal ≡ list_of f.opening f.k f.lanes f.journal ++ map happened more
+pub list-grown : (f g : Forest) (more : List Entry) → IsBound f g → IsGrown f g more → list_of g.opening g.k g.lanes g.journal ≡ list_of f.opening f.k f.lanes f.journal ++ map happened more
 list-grown f g more bound grown =
     ap (λ d. list_of d g.k g.lanes g.journal) grown.opening
     ∙ (ap (λ n. list_of f.opening n g.lanes g.journal) bound.0
@@ -53,7 +53,7 @@ list-grown f g more bound grown =
     ∙ (ap (λ j. list_of f.opening f.k f.lanes j) grown.journal
     ∙ ap (λ l. Opening f.opening f.k f.lanes ∷ l) (map-append happened f.journal more))))
 
-list-same : (f g : Forest) → IsBound f g → IsGrown f g [] → list_of g.opening g.k g.lanes g.journal ≡ list_of f.opening f.k f.lanes f.journal
+pub list-same : (f g : Forest) → IsBound f g → IsGrown f g [] → list_of g.opening g.k g.lanes g.journal ≡ list_of f.opening f.k f.lanes f.journal
 list-same f g bound grown = list-grown f g [] bound grown ∙ append-nil (list_of f.opening f.k f.lanes f.journal)
 
 -- A job that is given back.

@@ -18,7 +18,7 @@ last_there : {A : Type 0} (xs : List A) (x : A) → slice_get (xs ++ x ∷ []) (
 last_there [] x = refl
 last_there (y ∷ xs) x = last_there xs x
 
-prefix_length : {A : Type 0} (xs ys : List A) → IsPrefix xs ys → length xs ≤ length ys
+pub prefix_length : {A : Type 0} (xs ys : List A) → IsPrefix xs ys → length xs ≤ length ys
 prefix_length xs ys p = omega (arith, sym (ap length p.1) ∙ length-append xs p.0)
 
 -- a list that grew by one commit at most begins with the old one
@@ -31,7 +31,7 @@ turn_is found left (inl e) = inl (ap length e)
 turn_is found left (inr (t, outcome, is)) =
     inr (ap length is ∙ length-append found (Happened (Committed t outcome) ∷ []), (t, outcome, ap (λ l. slice_get l (length found)) is ∙ last_there found (Happened (Committed t outcome))))
 
-turn_stays : (seen seen' : List Item) (turn : ℕ × ℕ) → IsPrefix seen seen' → IsTurnOfWork seen turn → IsTurnOfWork seen' turn
+pub turn_stays : (seen seen' : List Item) (turn : ℕ × ℕ) → IsPrefix seen seen' → IsTurnOfWork seen turn → IsTurnOfWork seen' turn
 turn_stays seen seen' turn p (inl e) = inl e
 turn_stays seen seen' turn p (inr (e, (t, outcome, h))) = inr (e, (t, outcome, prefix_get seen seen' turn.0 (Happened (Committed t outcome)) p h))
 

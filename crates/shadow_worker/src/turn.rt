@@ -1,5 +1,5 @@
 // What a turn does to the forest.
-ghost use Rattle.std.specs.Prelude.{◌≡◌, ◌+◌, ◌↔◌, true, false, None, length, option_map, IfSome};
+ghost use Rattle.std.specs.Prelude.{◌≡◌, ◌+◌, ◌≤◌, ◌↔◌, true, false, None, length, option_map, IfSome};
 ghost use Rattle.journal_core.specs.Journal.{is_live};
 ghost use Rattle.forest_model.specs.Drain.{gate_step as gate_step_of};
 ghost use Rattle.shadow_forest.specs.View.{gate_step_view};
@@ -107,6 +107,7 @@ pub(crate) fn turn_over<L: Ledger>(
     ensures room { bench.new.items ≡ bench.old.items }
     ensures last { more ≡ false → bench.new.outside ≡ None }
     ensures ended { result ≡ Ended → HasEnded forest.new.numbers.journal × (bench.new.outside ≡ None) }
+    ensures later { steps.old ≤ steps.new }
 {
     let entries = forest.journal().len();
     let job = one_turn(forest, bench, more, steps);

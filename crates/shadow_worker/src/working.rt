@@ -1,5 +1,5 @@
 // Turns of work, one after another.
-ghost use Rattle.std.specs.Prelude.{◌≡◌, ◌≤◌, ℕ, Some, None, false};
+ghost use Rattle.std.specs.Prelude.{◌≡◌, ◌+◌, ◌≤◌, ℕ, Some, None, false};
 ghost use Rattle.turn_cell.specs.Passes.{IsOf, seen_by, turns_of, seats_of};
 ghost use Rattle.shadow_forest.specs.Listed.{items_in, journal_in};
 ghost use Rattle.shadow_worker.specs.Worked.{Fits, HasWorked, HasEnded, AreMade, IsSameJob};
@@ -65,6 +65,7 @@ pub fn work<R: Wait, G: Gate, L: Ledger>(
     ensures worked { (n : ℕ) × AreMade until n × HasWorked (seen_by pass) (turns_of pass) n (seen_by result) (turns_of result) }
     ensures ended { until ≡ AllEnded → HasEnded (journal_in (seen_by result)) }
     ensures bench { bench.new ≡ bench.old }
+    ensures later { steps.old ≤ steps.new }
 {
     match until {
         Until::AllEnded => work_to_end(rt, cell, pass, bench, worker, gate, steps),
@@ -89,6 +90,7 @@ fn work_turns<R: Wait, G: Gate, L: Ledger>(
     ensures cell { IsOf result cell.now × (seats_of result ≡ seats_of pass) }
     ensures worked { HasWorked (seen_by pass) (turns_of pass) turns (seen_by result) (turns_of result) }
     ensures bench { bench.new ≡ bench.old }
+    ensures later { steps.old ≤ steps.new }
 {
     let mut pass = pass;
     for turn in 0..turns {
@@ -116,6 +118,7 @@ fn work_to_end<R: Wait, G: Gate, L: Ledger>(
     ensures worked { (n : ℕ) × (1 ≤ n) × HasWorked (seen_by pass) (turns_of pass) n (seen_by result) (turns_of result) }
     ensures ended { HasEnded (journal_in (seen_by result)) }
     ensures bench { bench.new ≡ bench.old }
+    ensures later { steps.old ≤ steps.new }
 {
     let mut pass = pass;
     for _ in rt.forever() {
@@ -146,6 +149,7 @@ fn turn_at<R: Wait, L: Ledger>(
     ensures room { bench.new.items ≡ bench.old.items }
     ensures last { more ≡ false → bench.new.outside ≡ None }
     ensures ended { result.1 ≡ Ended → HasEnded (journal_in (seen_by result.0)) × (bench.new.outside ≡ None) }
+    ensures later { steps.old ≤ steps.new }
 {
     let mut held = cell.take_turn(rt, pass);
     let after = turn_over(&mut held.value, bench, more, steps);
@@ -164,6 +168,7 @@ fn go_on<R: Wait, G: Gate, L: Ledger>(
 )
     ensures items { bench.new.items ≡ bench.old.items }
     ensures job { IsSameJob bench.old.outside bench.new.outside }
+    ensures later { steps.old ≤ steps.new }
 {
     let made = run_outside(bench, worker, gate, steps);
     if let After::Idle = after {

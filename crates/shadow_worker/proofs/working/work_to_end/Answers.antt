@@ -11,6 +11,7 @@ loop-init g c = (
   (0, no_turns (seen_by c.args.pass) (turns_of c.args.pass)),
   fits-empty (seen_by c.args.pass) c.args.bench.now c.requires.empty c.requires.items,
   refl,
+  omega arith,
 )
 
 pub returns-in-Ended-clause-worked : goal.returns-in-Ended-clause-worked
@@ -28,4 +29,5 @@ loop-preserved g c =
       (i.2.0 + 1, then_turns _ _ _ _ _ _ i.2.0 1 i.2.1 t.worked),
       fits-same (seen_by c.turn_at-next.result.0) c.turn_at-next.new.bench c.go_on.new.bench r.items r.job t.fits,
       r.items ∙ (t.room ∙ i.4),
+      omega (arith, i.5, t.later, r.later),
     )

@@ -20,4 +20,5 @@ loop-turn-preserved g c =
       fits-same (seen_by c.turn_at-next.result.0) c.turn_at-next.new.bench c.run_outside.new.bench r.items r.job t.fits,
       r.items ∙ (t.room ∙ i.4),
       (λ e. same-empty _ _ r.job (t.last (not_less _ _ e))),
+      omega (arith, i.6, t.later, r.ticks),
     )
