@@ -1,13 +1,12 @@
 /* Loaded into a program before the C library, this refuses it memory: the call numbered REFUSE_FROM, counted from 1,
    and with REFUSE_ALL set each later one too. The number of calls goes to the file REFUSE_TOLD at the end. */
 #define _GNU_SOURCE
-#include <dlfcn.h>
 #include <errno.h>
 #include <fcntl.h>
 #include <stdatomic.h>
 #include <stdio.h>
 #include <stdlib.h>
-#include <string.h>
+#include <sys/syscall.h>
 #include <unistd.h>
 
 extern void *__libc_malloc(size_t size);
@@ -26,14 +25,20 @@ __attribute__((constructor)) static void begin(void) {
     from = word ? strtoul(word, NULL, 10) : 0;
 }
 
-__attribute__((destructor)) static void end(void) {
+static void tell(void) {
     const char *path = getenv("REFUSE_TOLD");
     char text[32];
     int file = path ? open(path, O_WRONLY | O_CREAT | O_TRUNC, 0600) : -1;
     if (file < 0) return;
     int length = snprintf(text, sizeof text, "%lu\n", atomic_load(&calls));
-    if (write(file, text, length) != length) _exit(99);
+    if (write(file, text, length) != length) abort();
     close(file);
+}
+
+/* The program ends by this call, which runs no destructors. */
+void _exit(int status) {
+    tell();
+    for (;;) syscall(SYS_exit_group, status);
 }
 
 /* Whether this call is refused. */
