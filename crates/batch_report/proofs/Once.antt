@@ -13,7 +13,7 @@ use Rattle.batch_report.specs.Order.{NamesEachOnce, AreCommits}
 -- Behind a seal.
 
 -- what comes behind the front of a legal journal continues it
-legal-behind : (opening : Tables) (before front more : List Entry) → IsLegalFrom opening before (front ++ more) → IsLegalFrom opening (before ++ front) more
+pub legal-behind : (opening : Tables) (before front more : List Entry) → IsLegalFrom opening before (front ++ more) → IsLegalFrom opening (before ++ front) more
 legal-behind opening before [] more h = subst (λ j. IsLegalFrom opening j more) (sym (append-nil before)) h
 legal-behind opening before (e ∷ front) more h =
     subst (λ j. IsLegalFrom opening j more) (append_assoc before (e ∷ []) front) (legal-behind opening (before ++ e ∷ []) front more h.1)

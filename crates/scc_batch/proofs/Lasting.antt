@@ -1,9 +1,8 @@
 -- What stays of a forest that goes on: the tables that it opened with, and the journal that it had.
-use Rattle.std.proofs.Common.{◌≡◌, ℕ, false, if◌then◌else◌, List, [], ◌∷◌, ◌++◌, refl, sym, ap, ◌∙◌, subst, append_assoc, append-nil}
+use Rattle.std.proofs.Common.{◌≡◌, ℕ, false, if◌then◌else◌, List, [], ◌∷◌, ◌++◌, sym, ap, ◌∙◌, subst, append-nil}
 use mathlib.Core.List.{IsPrefix}
 use Rattle.txn_runs.specs.Run.{Tables}
 use Rattle.txn_names.specs.Tables.{Named}
-use Rattle.journal_core.specs.declared.entry.Entry.{Entry}
 use Rattle.journal_core.specs.declared.entry.Entry.TheVariants.{Sealed}
 use Rattle.journal_core.specs.Journal.{is_sealed}
 use Rattle.forest_model.specs.Forest.{Forest}
@@ -40,13 +39,6 @@ begun-sealed f tables requests begun =
     let unsealed : is_sealed f.journal ≡ false = ap is_sealed plain ∙ begun-open 1 requests in
     let is : seal f ≡ with_entry Sealed f = ap (λ b. if b then f else with_entry Sealed f) unsealed in
     subst (HasBegun tables requests (Sealed ∷ [])) (sym is) (record { opening = begun.opening; journal = ap (λ j. j ++ Sealed ∷ []) plain })
-
-pub begun-longer : (f g : Forest) (tables : Tables) (requests : List Request) (more : List Entry) → HasBegun tables requests more f → (longer : IsLonger f g)
-    → HasBegun g.opening requests (more ++ longer.more) g
-begun-longer f g tables requests more begun longer = record {
-  opening = refl;
-  journal = longer.grown.journal ∙ ap (λ j. j ++ longer.more) begun.journal ∙ append_assoc (begun_from 1 requests) more longer.more;
-}
 
 pub same-report : (names names' : List Named) (tables tables' : Tables) (requests requests' : List Request) (text text' : List ℕ)
     → names ≡ names' → tables ≡ tables' → requests ≡ requests' → text ≡ text' → IsReport names tables requests text → IsReport names' tables' requests' text'

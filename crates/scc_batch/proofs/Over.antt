@@ -1,9 +1,9 @@
 -- A batch that is over: all that began is committed once.
-use Rattle.std.proofs.Common.{◌≡◌, ℕ, ◌+◌, true, false, List, [], ◌∷◌, ◌++◌, length, refl, sym, ap, ◌∙◌, subst, append_assoc}
+use Rattle.std.proofs.Common.{◌≡◌, ℕ, ◌+◌, Bool, true, false, nat_lt, if◌then◌else◌, List, [], ◌∷◌, ◌++◌, length, refl, sym, ap, ◌∙◌, subst, append_assoc, append-nil, true≢false}
 use Rattle.txn_runs.specs.Run.{Tables}
 use Rattle.journal_core.specs.declared.entry.Entry.{Entry}
 use Rattle.journal_core.specs.declared.entry.Entry.TheVariants.{Began, Sealed, Committed, Withdrawn}
-use Rattle.journal_core.specs.Journal.{began, commits, is_live, is_sealed, is_withdrawn, IsLegal}
+use Rattle.journal_core.specs.Journal.{began, commits, is_live, is_sealed, is_withdrawn, IsLegal, IsLegalFrom}
 use Rattle.journal_core.specs.Begins.{begins}
 use Rattle.journal_core.proofs.Begins.{begins-count}
 use Rattle.forest_model.specs.Forest.{Forest}
@@ -11,8 +11,12 @@ use Rattle.forest_model.specs.Grown.{IsLonger}
 use Rattle.batch_input.specs.declared.request.Request.{Request}
 use Rattle.batch_report.specs.Order.{AreCommits, NamesEachOnce}
 use Rattle.batch_report.specs.Report.{numbered}
-use Rattle.batch_report.proofs.Once.{sealed-commits, each-once}
-use Rattle.scc_batch.specs.Opened.{HasBegun, begun_from, programs_of}
+use Rattle.batch_report.proofs.Once.{legal-behind, sealed-commits, each-once}
+use Rattle.turn_cell.specs.Views.{longer}
+use Rattle.shadow_forest.specs.declared.kept.Item.{Item}
+use Rattle.shadow_forest.specs.Listed.{journal_in}
+use Rattle.shadow_worker.specs.Worked.{HasEnded}
+use Rattle.scc_batch.specs.Opened.{HasBegun, AreCommitted, begun_from, programs_of}
 use Rattle.scc_batch.proofs.Begun.{numbered-many}
 
 commits-begin-none : (entries : List Entry) → AreCommits entries → begins entries ≡ []
@@ -46,9 +50,9 @@ commits-count entries h n requests =
     sym (begins-count (begun_from n requests ++ Sealed ∷ entries)) ∙ ap length (begins-behind n requests entries h) ∙ numbered-many n requests
 
 -- the programs of this journal are those of the requests, and its commits name each once
-pub record IsOver (requests : List Request) (journal : List Entry) : Type 0 where
-  pub begins : begins journal ≡ numbered 1 (programs_of requests)
-  pub once : NamesEachOnce (length requests) (commits journal)
+record IsOver (requests : List Request) (journal : List Entry) : Type 0 where
+  begins : begins journal ≡ numbered 1 (programs_of requests)
+  once : NamesEachOnce (length requests) (commits journal)
 
 over-behind : (opening : Tables) (requests : List Request) (entries : List Entry) → IsLegal opening (begun_from 1 requests ++ Sealed ∷ entries)
     → ((t : ℕ) → is_live (begun_from 1 requests ++ Sealed ∷ entries) t ≡ false) → IsOver requests (begun_from 1 requests ++ Sealed ∷ entries)
@@ -63,10 +67,34 @@ over-behind opening requests entries legal nobody =
     }
 
 -- after a forest in which they began and no more may begin was worked on until nobody is live
-pub over : (f g : Forest) (requests : List Request) (more : List Entry) → IsLonger f g → IsLegal g.opening g.journal → ((t : ℕ) → is_live g.journal t ≡ false)
-    → HasBegun f.opening requests (Sealed ∷ more) f → IsOver requests g.journal
-over f g requests more longer legal nobody begun =
+pub over : (f g : Forest) (tables : Tables) (requests : List Request) → IsLonger f g → IsLegal g.opening g.journal → HasEnded g.journal → HasBegun tables requests (Sealed ∷ []) f
+    → AreCommitted tables requests g
+over f g tables requests longer legal ended begun =
     let later = longer.more in
-    let is : g.journal ≡ begun_from 1 requests ++ Sealed ∷ (more ++ later) =
-    longer.grown.journal ∙ ap (λ j. j ++ later) begun.journal ∙ append_assoc (begun_from 1 requests) (Sealed ∷ more) later in
-    subst (IsOver requests) (sym is) (over-behind g.opening requests (more ++ later) (subst (IsLegal g.opening) is legal) (λ t. ap (λ j. is_live j t) (sym is) ∙ nobody t))
+    let is : g.journal ≡ begun_from 1 requests ++ Sealed ∷ later =
+    longer.grown.journal ∙ ap (λ j. j ++ later) begun.journal ∙ append_assoc (begun_from 1 requests) (Sealed ∷ []) later in
+    let all : IsOver requests g.journal =
+    subst (IsOver requests) (sym is) (over-behind g.opening requests later (subst (IsLegal g.opening) is legal) (λ t. ap (λ j. is_live j t) (sym is) ∙ ended.nobody t)) in
+    record { opening = longer.grown.opening ∙ begun.opening; begins = all.begins; once = all.once }
+
+-- Nothing comes behind the end.
+
+none-behind : (opening : Tables) (journal more : List Entry) → HasEnded journal → IsLegalFrom opening journal more → more ≡ []
+none-behind opening journal [] ended h = refl
+none-behind opening journal (Began t deadline program ∷ more) ended h = absurd (true≢false (sym ended.sealed ∙ h.0.1))
+none-behind opening journal (Sealed ∷ more) ended h = absurd (true≢false (sym ended.sealed ∙ h.0))
+none-behind opening journal (Withdrawn t ∷ more) ended h = absurd (true≢false (sym ended.sealed ∙ h.0.1))
+none-behind opening journal (Committed t outcome ∷ more) ended h = absurd (true≢false (sym h.0.0 ∙ ended.nobody t))
+
+-- a legal journal that goes on behind the end goes on with nothing
+pub still-ended : (opening : Tables) (journal more : List Entry) → HasEnded journal → IsLegal opening (journal ++ more) → HasEnded (journal ++ more)
+still-ended opening journal more ended legal =
+    let none = none-behind opening journal more ended (legal-behind opening [] journal more legal) in
+    subst (λ m. HasEnded (journal ++ m)) (sym none) (subst HasEnded (sym (append-nil journal)) ended)
+
+pub ended_either : (a b : List Item) → HasEnded (journal_in a) → HasEnded (journal_in b) → HasEnded (journal_in (longer a b))
+ended_either a b x y = chosen (nat_lt (length a) (length b))
+  where
+    chosen : (c : Bool) → HasEnded (journal_in (if c then b else a))
+    chosen true = y
+    chosen false = x

@@ -1,12 +1,16 @@
--- A forest in which all programs of a batch began, and no more may begin.
-use Rattle.std.specs.Prelude.{◌≡◌, ◌≤◌, ℕ, ◌+◌, List, [], ◌∷◌, ◌++◌, map}
+-- A forest in which all programs of a batch began, and no more may begin; and one in which all are committed.
+use Rattle.std.specs.Prelude.{◌≡◌, ◌≤◌, ℕ, ◌+◌, List, [], ◌∷◌, ◌++◌, length, map}
 use Rattle.txn_runs.specs.Bounds.{reach}
 use Rattle.txn_runs.specs.Run.{Tables}
 use Rattle.txn_runs.specs.declared.program.Program.{Program}
+use Rattle.journal_core.specs.Begins.{begins}
+use Rattle.journal_core.specs.Journal.{commits}
 use Rattle.journal_core.specs.declared.entry.Entry.{Entry}
 use Rattle.journal_core.specs.declared.entry.Entry.TheVariants.{Began}
 use Rattle.forest_model.specs.Forest.{Forest}
 use Rattle.batch_input.specs.declared.request.Request.{Request}
+use Rattle.batch_report.specs.Order.{NamesEachOnce}
+use Rattle.batch_report.specs.Report.{numbered}
 
 -- the program reaches no item beyond so many, and its deadline lies within its limit
 pub record IsWithin (items : ℕ) (request : Request) : Type 0 where
@@ -26,3 +30,9 @@ programs_of requests = map (λ (request : Request). request.program) requests
 pub record HasBegun (tables : Tables) (requests : List Request) (more : List Entry) (f : Forest) : Type 0 where
   pub opening : f.opening ≡ tables
   pub journal : f.journal ≡ begun_from 1 requests ++ more
+
+-- the forest opened over these tables, the programs of these requests began, and each is committed once
+pub record AreCommitted (tables : Tables) (requests : List Request) (f : Forest) : Type 0 where
+  pub opening : f.opening ≡ tables
+  pub begins : begins f.journal ≡ numbered 1 (programs_of requests)
+  pub once : NamesEachOnce (length requests) (commits f.journal)

@@ -8,7 +8,4 @@ mod reporting;
 mod running;
 mod working;
 
-pub use opening::opened;
-pub use reporting::put_last_report;
-pub use running::batch;
-pub use working::worked;
+pub use running::{batch, commit_all};

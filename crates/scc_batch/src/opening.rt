@@ -11,9 +11,9 @@ use item_table::Table;
 use shadow_forest::Forest;
 use std::alloc::{AllocError, Global};
 
-/// A forest over these tables in which these programs, at most 20,000, began in this order, and no more may begin. `AllocError` for
-/// want of memory.
-pub fn opened(
+// A forest over these tables in which these programs, at most 20,000, began in this order, and no more may begin. `AllocError` for
+// want of memory.
+pub(crate) fn opened(
     alloc: Global,
     table: Table,
     requests: Vec<Request>,

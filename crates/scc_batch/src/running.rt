@@ -1,18 +1,23 @@
 // A batch, from the bytes of a source to those of a sink.
-ghost use Rattle.std.specs.Prelude.{◌≡◌, ◌≤◌, ℕ, List, [], ◌++◌, OnOk};
+ghost use Rattle.std.specs.Prelude.{◌≡◌, ◌≤◌, ℕ, List, [], ◌++◌, IfOk, OnOk};
 ghost use Rattle.scc_ports.specs.Ports.{Rose};
+ghost use Rattle.scc_batch.specs.Opened.{AreCommitted};
 ghost use Rattle.scc_batch.specs.Told.{IsReport, HasRun, HasRefused, bad_line, Batched};
 
-use crate::{opened, put_last_report, worked};
+use crate::opening::opened;
+use crate::reporting::put_last_report;
+use crate::working::worked;
 use batch_input::{BatchInput, Unread, read_input};
 use scc_ports::{Gate, Sink, Source, write_all};
 use scc_replies::{Status, put_number_line};
 use scc_text::put_count;
+use shadow_forest::Forest;
 use std::alloc::{AllocError, Global};
 use std::sync::Wait;
 use std::sync::ledger::Ledger;
 use std::thread::Threads;
 use step_count::Steps;
+use txn_names::Names;
 
 /// Reads a whole input, runs its programs as one batch with so many workers, and writes the report as one piece; where a line is
 /// refused, writes `bad` with that line and the number instead. A transaction has at most `k` shadows, 1 to 8, and at most `lanes`
@@ -44,7 +49,7 @@ pub fn batch<R: Threads + Wait + Sync, S: Source, K: Sink, G: Gate + Sync, L: Le
     ensures write_fault { result ≡ Status.WriteFault → Rose (K.faults sink.old) (K.faults sink.new) }
 {
     match read_input(alloc, source, sink, steps) {
-        Ok(input) => run(rt, alloc, k, lanes, workers, input, sink, gate, steps),
+        Ok(input) => run(rt, alloc, k, lanes, workers, input, sink, gate),
         Err(Unread::Bad { line, code }) => refuse(alloc, line, code, sink),
         Err(Unread::ReadFault) => Status::ReadFault,
         Err(Unread::WriteFault) => Status::WriteFault,
@@ -54,7 +59,7 @@ pub fn batch<R: Threads + Wait + Sync, S: Source, K: Sink, G: Gate + Sync, L: Le
 }
 
 // Runs a batch, and writes its report.
-fn run<R: Threads + Wait + Sync, K: Sink, G: Gate + Sync, L: Ledger>(
+fn run<R: Threads + Wait + Sync, K: Sink, G: Gate + Sync>(
     rt: &R,
     alloc: Global,
     k: u32,
@@ -63,7 +68,6 @@ fn run<R: Threads + Wait + Sync, K: Sink, G: Gate + Sync, L: Ledger>(
     input: BatchInput,
     sink: &mut K,
     gate: &G,
-    steps: &mut Steps<L>,
 ) -> Status
     requires shadows { (1 ≤ k) × (k ≤ 8) }
     requires lanes { (1 ≤ lanes) × (lanes ≤ 64) }
@@ -73,7 +77,7 @@ fn run<R: Threads + Wait + Sync, K: Sink, G: Gate + Sync, L: Ledger>(
     ensures later { K.faults sink.old ≤ K.faults sink.new }
 {
     let mut text = Vec::new(alloc);
-    if put_batch(rt, alloc, k, lanes, workers, input, gate, &mut text, steps).is_err() {
+    if put_batch(rt, alloc, k, lanes, workers, input, gate, &mut text).is_err() {
         return Status::OutOfMemory;
     }
     match write_all(sink, &text) {
@@ -83,7 +87,7 @@ fn run<R: Threads + Wait + Sync, K: Sink, G: Gate + Sync, L: Ledger>(
 }
 
 // Runs a batch, and puts its report into an empty text.
-fn put_batch<R: Threads + Wait + Sync, G: Gate + Sync, L: Ledger>(
+fn put_batch<R: Threads + Wait + Sync, G: Gate + Sync>(
     rt: &R,
     alloc: Global,
     k: u32,
@@ -92,7 +96,6 @@ fn put_batch<R: Threads + Wait + Sync, G: Gate + Sync, L: Ledger>(
     input: BatchInput,
     gate: &G,
     out: &mut Vec<u8>,
-    steps: &mut Steps<L>,
 ) -> Result<(), AllocError>
     requires shadows { (1 ≤ k) × (k ≤ 8) }
     requires lanes { (1 ≤ lanes) × (lanes ≤ 64) }
@@ -100,10 +103,35 @@ fn put_batch<R: Threads + Wait + Sync, G: Gate + Sync, L: Ledger>(
     requires empty { out.old.items ≡ [] }
     ensures { OnOk result (IsReport input.opening.names input.opening.tables input.requests out.new.items) }
 {
+    let (names, forest) = commit_all(rt, alloc, k, lanes, workers, input, gate)?;
+    put_last_report(&names, &forest, out)
+}
+
+/// Runs the programs of a batch with so many workers, at least 1, until each is committed: the tables' names, and the forest. A
+/// transaction has at most `k` shadows, 1 to 8, and at most `lanes` are started at once, 1 to 64. `AllocError` for want of memory.
+///
+/// The workers wait for their turns, so its promises hold if it returns.
+pub fn commit_all<R: Threads + Wait + Sync, G: Gate + Sync>(
+    rt: &R,
+    alloc: Global,
+    k: u32,
+    lanes: u32,
+    workers: u32,
+    input: BatchInput,
+    gate: &G,
+) -> Result<(Names, Forest), AllocError>
+    requires shadows { (1 ≤ k) × (k ≤ 8) }
+    requires lanes { (1 ≤ lanes) × (lanes ≤ 64) }
+    requires some { 1 ≤ workers }
+    ensures names { IfOk result (λ r. r.0 ≡ input.opening.names) }
+    ensures committed { IfOk result (λ r. AreCommitted input.opening.tables input.requests r.1.numbers) }
+{
     let (names, table, requests) = input.into_parts();
     let forest = opened(alloc, table, requests, k, lanes)?;
-    let mut forest = worked(rt, alloc, forest, workers, gate)?;
-    put_last_report(&names, &mut forest, out, steps)
+    let forest = worked(rt, alloc, forest, workers, gate)?;
+    // that its journal is legal comes with it
+    let _ = forest.journal();
+    Ok((names, forest))
 }
 
 // Writes that a line is refused.

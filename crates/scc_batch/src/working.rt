@@ -3,9 +3,10 @@ ghost use Rattle.std.specs.Prelude.{◌≡◌, ◌≤◌, ◌<◌, None, Some, l
 ghost use Rattle.std.specs.List.{All};
 ghost use denote.Param.Send.{IsSync};
 ghost use mathlib.Core.List.{IsPrefix};
-ghost use Rattle.turn_cell.specs.Passes.{IsOf, seen_by, seats_of};
-ghost use Rattle.shadow_forest.specs.Listed.{listed, items_in};
+ghost use Rattle.turn_cell.specs.Passes.{IsOf, all_seats, seen_by, seats_of};
+ghost use Rattle.shadow_forest.specs.Listed.{listed, items_in, journal_in};
 ghost use Rattle.forest_model.specs.Grown.{IsLonger};
+ghost use Rattle.shadow_worker.specs.Worked.{HasEnded};
 ghost use Rattle.scc_batch.specs.Benches.{IsFreeFor};
 
 use scc_ports::Gate;
@@ -20,11 +21,12 @@ use std::thread::Threads;
 use step_count::Steps;
 use turn_cell::{Pass, TurnCell};
 
-/// The forest after so many workers, at least 1, worked on it until no transaction was live. A worker for whom no thread can be made
-/// works after the others. `AllocError` for want of memory, before any worker works; then the forest is dropped.
-///
-/// It waits for turns, so its promises hold if it returns.
-pub fn worked<R: Threads + Wait + Sync, G: Gate + Sync>(
+// The forest after so many workers, at least 1, worked on it until its journal was sealed and no transaction was live. A worker for
+// whom no thread can be made works after the others. `AllocError` for want of memory, before any worker works; then the forest is
+// dropped.
+//
+// It waits for turns, so its promises hold if it returns.
+pub(crate) fn worked<R: Threads + Wait + Sync, G: Gate + Sync>(
     rt: &R,
     alloc: Global,
     forest: Forest,
@@ -33,17 +35,34 @@ pub fn worked<R: Threads + Wait + Sync, G: Gate + Sync>(
 ) -> Result<Forest, AllocError>
     requires some { 1 ≤ workers }
     requires small { length forest.numbers.opening ≤ 1024 }
-    ensures { IfOk result (λ f. IsLonger forest.numbers f.numbers) }
+    ensures longer { IfOk result (λ f. IsLonger forest.numbers f.numbers) }
+    ensures ended { IfOk result (λ f. HasEnded f.numbers.journal) }
 {
     // that its number of items stays comes with the journal
     let _ = forest.journal();
-    let benches = benches_for(alloc, forest.table().len(), workers)?;
+    let items = forest.table().len();
+    let bench = Bench::open(alloc, items)?;
+    let others = benches_for(alloc, items, workers - 1)?;
     let (cell, pass) = TurnCell::open(alloc, forest, workers)?;
-    let pass = fan_out(rt, &cell, pass, benches, gate);
-    Ok(cell.close(pass))
+    let pass = fan_out(rt, &cell, pass, bench, others, gate);
+    Ok(closed(cell, pass))
 }
 
-// A bench for each worker, over so many items.
+// The forest of a cell whose workers have all ended.
+fn closed(cell: TurnCell<Forest>, pass: Pass<Forest>) -> Forest
+    requires cell { IsOf pass cell }
+    requires all { seats_of pass ≡ all_seats cell }
+    requires ended { HasEnded (journal_in (seen_by pass)) }
+    ensures seen { IsPrefix (seen_by pass) (listed result) }
+    ensures ended { HasEnded result.numbers.journal }
+{
+    let forest = cell.close(pass);
+    // that its journal is legal comes with it
+    let _ = forest.journal();
+    forest
+}
+
+// So many benches, over so many items.
 fn benches_for(alloc: Global, items: u32, workers: u32) -> Result<Vec<Bench>, AllocError>
     requires { items ≤ 1024 }
     ensures number { IfOk result (λ benches. length benches.items ≡ workers) }
@@ -56,29 +75,30 @@ fn benches_for(alloc: Global, items: u32, workers: u32) -> Result<Vec<Bench>, Al
     Ok(benches)
 }
 
-// A thread for each bench. Each has a seat of its own.
+// A worker with this bench, and one with each of the others, each in a thread of its own. Each has a seat of its own.
+#[tactic(auto, using(crate::proofs::Over::ended_either))]
 fn fan_out<R: Threads + Wait + Sync, G: Gate + Sync>(
     rt: &R,
     cell: &TurnCell<Forest>,
     pass: Pass<Forest>,
-    benches: Vec<Bench>,
+    bench: Bench,
+    others: Vec<Bench>,
     gate: &G,
 ) -> Pass<Forest>
     requires cell { IsOf pass cell.now }
-    requires few { length benches.items ≤ 4294967295 }
-    requires seats { length benches.items ≤ seats_of pass }
-    requires free { All (IsFreeFor (items_in (seen_by pass))) benches.items }
+    requires few { length others.items < 4294967295 }
+    requires seats { length others.items < seats_of pass }
+    requires free { IsFreeFor (items_in (seen_by pass)) bench }
+    requires all_free { All (IsFreeFor (items_in (seen_by pass))) others.items }
     ensures cell { IsOf result cell.now × (seats_of result ≡ seats_of pass) }
     ensures seen { IsPrefix (seen_by pass) (seen_by result) }
+    ensures ended { HasEnded (journal_in (seen_by result)) }
 {
-    let mut benches = benches;
-    let Some(bench) = benches.pop() else {
-        return pass;
-    };
-    let worker = benches.len() as u32;
-    if benches.is_empty() {
+    let mut others = others;
+    let worker = others.len() as u32;
+    let Some(next) = others.pop() else {
         return work_with(rt, cell, pass, bench, worker, gate);
-    }
+    };
     let mut rest = pass;
     let mine = cell.split(&mut rest);
     // The first goes to the new thread, so that this one starts all.
@@ -86,12 +106,12 @@ fn fan_out<R: Threads + Wait + Sync, G: Gate + Sync>(
         rt,
         || -> Pass<Forest>
             requires { IsOf mine cell.now × IsFreeFor (items_in (seen_by mine)) bench }
-            ensures { IsOf result cell.entry.now × (seats_of result ≡ seats_of mine) × IsPrefix (seen_by mine) (seen_by result) }
+            ensures { IsOf result cell.entry.now × (seats_of result ≡ seats_of mine) × IsPrefix (seen_by mine) (seen_by result) × HasEnded (journal_in (seen_by result)) }
         { work_with(rt, cell, mine, bench, worker, gate) },
         || -> Pass<Forest>
-            requires { IsOf rest cell.now × (length benches.items ≤ 4294967295) × (length benches.items ≤ seats_of rest) × All (IsFreeFor (items_in (seen_by rest))) benches.items × IsSync R.row × IsSync G.row }
-            ensures { IsOf result cell.entry.now × (seats_of result ≡ seats_of rest) × IsPrefix (seen_by rest) (seen_by result) }
-        { fan_out(rt, cell, rest, benches, gate) },
+            requires { IsOf rest cell.now × (length others.items < 4294967295) × (length others.items < seats_of rest) × IsFreeFor (items_in (seen_by rest)) next × All (IsFreeFor (items_in (seen_by rest))) others.items × IsSync R.row × IsSync G.row }
+            ensures { IsOf result cell.entry.now × (seats_of result ≡ seats_of rest) × IsPrefix (seen_by rest) (seen_by result) × HasEnded (journal_in (seen_by result)) }
+        { fan_out(rt, cell, rest, next, others, gate) },
     );
     cell.join(&mut rest, mine);
     rest
@@ -110,6 +130,7 @@ fn work_with<R: Wait, G: Gate>(
     requires free { IsFreeFor (items_in (seen_by pass)) bench }
     ensures cell { IsOf result cell.now × (seats_of result ≡ seats_of pass) }
     ensures seen { IsPrefix (seen_by pass) (seen_by result) }
+    ensures ended { HasEnded (journal_in (seen_by result)) }
 {
     counted_work::<R, G, Brand>(rt, Blank::new(1), cell, pass, bench, worker, gate)
 }
@@ -128,6 +149,7 @@ fn counted_work<R: Wait, G: Gate, L: Ledger>(
     requires free { IsFreeFor (items_in (seen_by pass)) bench }
     ensures cell { IsOf result cell.now × (seats_of result ≡ seats_of pass) }
     ensures seen { IsPrefix (seen_by pass) (seen_by result) }
+    ensures ended { HasEnded (journal_in (seen_by result)) }
 {
     let mut bench = bench;
     let mut steps: Steps<L> = Steps::new(blank);
