@@ -29,7 +29,7 @@ const YIELDS: u32 = 4;
 const LONG_YIELDS: u32 = 64;
 
 /// How often it stays away, before it draws a ticket at a cell that is busy still.
-const RESTS: u32 = 16;
+const RESTS: u32 = 64;
 
 /// How long it stays away each time, in microseconds.
 const REST: u64 = 100;
