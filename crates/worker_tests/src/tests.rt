@@ -1,6 +1,8 @@
 use crate::forests::{begin, opened};
 use crate::meeting::Meeting;
-use crate::workers::{bench_for, given_after_work, is_done_within, run, turn, watched, worked};
+use crate::workers::{
+    bench_for, given_after_work, is_done_within, run, step, turn, watched, worked,
+};
 use block_rule::{Role, Standing};
 use scc_ports::OpenGate;
 use shadow_forest::{Forest, Given, Job, Resumed};
@@ -45,17 +47,16 @@ fn a_worker_steps_the_shadow_that_waits_and_commits_the_other(rt: HostRuntime) -
     let mut forest = opened(alloc, 2, 2)?;
     begin(alloc, &mut forest, 10, "{ r0 = a[0]; r1 = a[1]; emit r1; }")?;
     begin(alloc, &mut forest, 20, "{ a[1] = 7; emit 1; }")?;
-    // three steps that need the tables: two reads of 1, whose next step is out then, and the write of 2
-    let mut old = bench_for(alloc, &forest)?;
-    let mut other = bench_for(alloc, &forest)?;
-    assert_eq!(rt; turn(&mut forest, &mut old, false), None);
-    let job = turn(&mut forest, &mut old, true);
-    assert_eq!(rt; job, Some(Job { txn: 1, from: 2 }));
-    assert_eq!(rt; turn(&mut forest, &mut other, false), None);
+    for txn in [1, 1, 2] {
+        step(&mut forest, txn);
+    }
     assert_eq!(rt;
         shown(&forest, 1, 1),
         Some((Role::Guard(2), 0, Standing::Runnable))
     );
+    let mut old = bench_for(alloc, &forest)?;
+    let job = turn(&mut forest, &mut old, true);
+    assert_eq!(rt; job, Some(Job { txn: 1, from: 2 }));
     let (forest, given) = given_after_work(&rt, alloc, forest, &mut old, Until::Turns(2))?;
     assert_eq!(rt; given, Some(Given::Gone));
     assert_eq!(rt; forest.journal().commits(), 1);

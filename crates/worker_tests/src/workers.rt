@@ -7,6 +7,7 @@ ghost use Rattle.shadow_forest.specs.Listed.{listed, items_in};
 ghost use Rattle.shadow_forest.specs.declared.kept.Item.{Item};
 ghost use Rattle.shadow_worker.specs.Worked.{Fits, IsSameJob};
 
+use block_rule::Role;
 use scc_ports::{Gate, OpenGate};
 use shadow_forest::{Bench, Forest, Given, Job};
 use shadow_worker::{Until, one_turn, work};
@@ -36,6 +37,19 @@ pub fn bench_for(alloc: Global, forest: &Forest) -> Result<Bench, AllocError>
     // that the number of items stays comes with the journal
     let _ = forest.journal();
     bench
+}
+
+fn counted_step<L: Ledger>(blank: Blank, forest: &mut Forest, txn: u32, role: Role)
+    requires { (blank.name ≡ L.name) × (blank.parts ≡ L.parts) × (0 < blank.parts) }
+{
+    let mut steps: Steps<L> = Steps::new(blank);
+    forest.step(txn, role, &mut steps);
+}
+
+/// The optimistic shadow of a transaction makes a step.
+pub fn step(forest: &mut Forest, txn: u32) {
+    let blank = Blank::new(1);
+    counted_step::<Brand>(blank, forest, txn, Role::Optimistic);
 }
 
 fn counted_run<L: Ledger>(blank: Blank, bench: &mut Bench) -> Option<u32>
