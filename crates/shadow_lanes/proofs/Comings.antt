@@ -10,7 +10,8 @@ use Rattle.forest_model.specs.Choose.{put_in_order}
 use Rattle.shadow_state.specs.Bank.{Slot, Banked, AreSides, lane_with, placed_slot, at_place}
 use Rattle.shadow_state.proofs.Places.{some_at, get_same, length_at, all_get, all_more}
 use Rattle.shadow_lanes.specs.Seats.{comes_before}
-use Rattle.shadow_lanes.specs.Kept.{Kept, AreKept, IsFew, IsRising, seat_of, seat_in, seats_in, seated_in, present_slots, lanes_of, numbers_of, times, place_in}
+use Rattle.forest_model.specs.Sound.{IsRising}
+use Rattle.shadow_lanes.specs.Kept.{Kept, AreKept, IsFew, seat_of, seat_in, seats_in, seated_in, present_slots, lanes_of, numbers_of, times, place_in}
 use Rattle.shadow_lanes.proofs.Views.{one_same, other_seats}
 use Rattle.shadow_lanes.proofs.Order.{order_is, place_within, times_insert, times_more, rising_insert, times_remove, rising_remove}
 

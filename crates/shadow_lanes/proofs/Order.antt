@@ -7,7 +7,8 @@ use Rattle.std.specs.List.{AllByRecursion}
 use Rattle.forest_model.specs.Choose.{put_in_order}
 use Rattle.shadow_state.specs.Bank.{Sides}
 use Rattle.shadow_lanes.specs.Seats.{Seat, find_seat, comes_before, seats_without}
-use Rattle.shadow_lanes.specs.Kept.{Kept, IsRising, seat_in, seats_in, numbers_of, one_if, times, place_in}
+use Rattle.forest_model.specs.Sound.{IsRising}
+use Rattle.shadow_lanes.specs.Kept.{Kept, seat_in, seats_in, numbers_of, one_if, times, place_in}
 use Rattle.shadow_state.proofs.Places.{all_get}
 
 -- Coming.

@@ -1,13 +1,14 @@
 -- What the lanes keep, where one transaction changes.
 use Rattle.shadow_lanes.proofs.Lists.{map_set}
 use Rattle.std.proofs.lemmas.List.{length-map}
-use Rattle.std.specs.Prelude.{◌≡◌, ◌<◌, ◌≤◌, ◌+◌, ℕ, suc, List, [], ◌∷◌, length, slice_get, slice_set, Some}
-use Rattle.std.proofs.Common.{sym, ap, subst, arith, ◌∙◌, length-set}
+use Rattle.std.specs.Prelude.{◌≡◌, ◌<◌, ◌≤◌, ◌+◌, ℕ, suc, List, [], ◌∷◌, length, map, slice_get, slice_set, Some}
+use Rattle.std.proofs.Common.{refl, sym, ap, subst, arith, ◌∙◌, length-set}
 use Rattle.std.specs.List.{AllByRecursion}
 use Rattle.shadow_state.specs.Bank.{Sides, Banked, AreSides, IsBanked, at_place, lane_with}
 use Rattle.shadow_state.proofs.Places.{length_at, all_at, all_set, some_at, all_get}
-use Rattle.shadow_lanes.specs.Seats.{IsSeat, AreSeats}
-use Rattle.shadow_lanes.specs.Kept.{Kept, AreKept, IsFew, IsRising, lanes_of, numbers_of, seat_of, seat_in, seats_in, seated_in, present_slots}
+use Rattle.forest_model.specs.Sound.{IsRising}
+use Rattle.shadow_lanes.specs.Seats.{Seat, IsSeat, AreSeats}
+use Rattle.shadow_lanes.specs.Kept.{Kept, AreKept, IsFew, lanes_of, numbers_of, seat_of, seat_in, seats_in, seated_in, present_slots}
 use Rattle.shadow_lanes.proofs.Slots.{seat_is}
 
 banked_with : (items most n : ℕ) (f : Sides → Sides) (sides : List Sides) → IsBanked items most sides → ((lane : Sides) → slice_get sides n ≡ Some lane → AreSides items most lane → AreSides items most (f lane)) → IsBanked items most (at_place n f sides)
@@ -63,6 +64,11 @@ seats_each bank (k ∷ kept) sides few within =
     let one = seat_is bank.most bank.items k lane.0.present few.0 two.present in
     (subst (λ o. IsSeat bank.most bank.items (seat_of k (present_slots o))) (sym lane.1) one, seats_each bank kept sides few.1 within.1)
 
+-- their numbers, as they are kept and as callers see them
+numbers_seen : (sides : List Sides) (kept : List Kept) → numbers_of kept ≡ map (λ (r : Seat). r.number) (seats_in sides kept)
+numbers_seen sides [] = refl
+numbers_seen sides (k ∷ kept) = ap (λ ns. k.number ∷ ns) (numbers_seen sides kept)
+
 pub seats_are : (bank : Banked) (kept : List Kept) (free : List ℕ) (room free_room : ℕ) → AreKept bank kept free room free_room → AreSeats (seated_in bank kept)
 seats_are bank kept free room free_room h = record {
   least = h.banked.least;
@@ -71,5 +77,6 @@ seats_are bank kept free room free_room h = record {
   many = h.banked.many;
   small = h.banked.small;
   few = omega (arith, h.all, length-map kept (seat_in bank.sides));
+  rising = subst IsRising (numbers_seen bank.sides kept) h.rising;
   each = seats_each bank kept h.banked.each h.few h.used_within;
 }

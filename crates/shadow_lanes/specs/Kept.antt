@@ -5,6 +5,7 @@ use Rattle.block_rule.specs.declared.role.Role.{Role}
 use Rattle.block_rule.specs.declared.role.Origin.{Origin}
 use Rattle.txn_code.specs.declared.node.Node.{Node}
 use Rattle.forest_model.specs.Point.{Conflict}
+use Rattle.forest_model.specs.Sound.{IsRising}
 use Rattle.shadow_state.specs.Bank.{Slot, Sides, Banked, IsBanked, fresh_slot, marked_slot, placed_slot}
 use Rattle.shadow_lanes.specs.Seats.{Waiter, Seat, Seated, slots_of, role_slot, slot_from, stays, waiter_with}
 
@@ -57,11 +58,6 @@ lanes_of kept = map (λ (k : Kept). k.lane) kept
 -- their numbers
 abbrev pub numbers_of : List Kept → List ℕ
 numbers_of kept = map (λ (k : Kept). k.number) kept
-
--- each number is greater than those before it
-abbrev pub IsRising : List ℕ → Type 0
-IsRising [] = Unit {0}
-IsRising (n ∷ ns) = AllByRecursion (λ m. n < m) ns × IsRising ns
 
 -- 1 if it is so
 abbrev pub one_if : Bool → ℕ

@@ -11,6 +11,7 @@ use Rattle.forest_model.specs.Point.{Conflict}
 use Rattle.forest_model.specs.Forest.{Shadow, Started}
 use Rattle.forest_model.specs.Origin.{waits_for, placed_of, origin, successor}
 use Rattle.forest_model.specs.Choose.{put_in_order}
+use Rattle.forest_model.specs.Sound.{IsRising}
 use Rattle.shadow_state.specs.Step as step
 use Rattle.shadow_state.specs.Bank.{Slot, at_place, IsOver, fresh_slot, marked_slot}
 
@@ -154,7 +155,7 @@ pub record IsSeat (most items : ℕ) (r : Seat) : Type 0 where
   pub optimistic : IsOver items r.optimistic
   pub waiters : AllByRecursion (λ (w : Waiter). IsOver items w.slot) r.waiters
 
--- the limits, and what each transaction keeps
+-- the limits, numbers that rise, and what each transaction keeps
 pub record AreSeats (s : Seated) : Type 0 where
   pub least : 1 ≤ s.most
   pub most : s.most ≤ 8
@@ -162,6 +163,7 @@ pub record AreSeats (s : Seated) : Type 0 where
   pub many : s.lanes ≤ 64
   pub small : s.items ≤ 1024
   pub few : length s.seats ≤ s.lanes
+  pub rising : IsRising (map (λ (r : Seat). r.number) s.seats)
   pub each : AllByRecursion (IsSeat s.most s.items) s.seats
 
 -- One step of a slot over these tables.
