@@ -1,0 +1,5 @@
+pub mod Orders
+pub mod Notes
+pub mod Adding
+pub mod Changes
+pub mod Steps

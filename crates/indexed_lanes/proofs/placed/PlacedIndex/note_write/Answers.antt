@@ -1,0 +1,10 @@
+use Rattle.shadow_state.proofs.Places.{get_at}
+use Rattle.conflict_index.specs.Index.{with_write}
+use Rattle.indexed_lanes.proofs.Orders.{below, placed_done}
+use Rattle.indexed_lanes.proofs.placed.PlacedIndex.note_write.Goals as goal
+
+pub returns-clause-lanes : goal.returns-clause-lanes
+returns-clause-lanes c =
+    let order = c.self.inside.order.items in
+    let at = get_at order c.args.place c.index-lane.result.now (below _ _ order c.args.place c.self.view_is c.requires.place) c.index-lane.ensures in
+    placed_done c.self.inside.index c.note_write.new.self _ order _ c.args.place c.index-lane.result.now (λ l. with_write l c.args.item) c.self.view_is c.self.invariant at c.note_write.ensures.lanes
