@@ -264,13 +264,13 @@ impl IndexedLanes {
         self.lanes.run_local(place, slot, code, most, steps)
     }
 
-    /// The state of a shadow of the transaction at a place becomes a copy of this one, which has read and written the same, and the
-    /// shadow is not out.
+    /// The state of a shadow of the transaction at a place becomes a copy of this one, and the shadow is not out. One for the optimistic
+    /// shadow has read and written the same.
     pub fn store(&mut self, place: u32, slot: u32, state: &State)
         requires place { place < length self.old.seats }
         requires slot { (r : Seat) → slice_get self.old.seats place ≡ Some r → slot < length (slots_of r) }
         requires room { state.now.log.room ≡ self.old.items }
-        requires same { (s : Slot) → slot_at self.old.seats place slot ≡ Some s → HasSameLists s.state state.now }
+        requires same { (r : Seat) → slot ≡ 0 → slice_get self.old.seats place ≡ Some r → HasSameLists r.optimistic.state state.now }
         ensures { self.new ≡ record self.old { seats = at_place place (seat_with slot (stepped_slot state.now)) self.old.seats } }
     {
         self.lanes.store(place, slot, state);

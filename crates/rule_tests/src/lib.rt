@@ -12,6 +12,8 @@ mod cuts;
 #[cfg(test)]
 mod heirs;
 #[cfg(test)]
+mod indexed;
+#[cfg(test)]
 mod picks;
 #[cfg(test)]
 mod points;

@@ -2,9 +2,8 @@
 use Rattle.std.proofs.Common.{◌≡◌, ◌≢◌, ℕ, ◌+◌, ◌<◌, ◌++◌, [], ◌∷◌, List, Option, Some, None, length, take, filter_map, option_map, slice_get, refl, ap, ap₂, sym, ◌∙◌, subst}
 use Rattle.std.proofs.lemmas.Bool.{eq-eqb, ne_eqb}
 use Rattle.std.proofs.lemmas.List.{append_assoc}
+use Rattle.std.proofs.lemmas.Option.{same_Some}
 use Rattle.txn_code.specs.declared.node.Node.{Node}
-use Rattle.txn_runs.specs.Run.{Writes}
-use Rattle.access_sets.specs.Log.{Log}
 use Rattle.txn_interp.specs.State.{Held}
 use Rattle.forest_model.specs.Point.{point}
 use Rattle.shadow_state.specs.Bank.{Slot, at_place}
@@ -123,13 +122,16 @@ module _ (start now : Seated) (txns : List Txn) (of i : ℕ) (before seen : List
   apart ne u is = λ e. ne (sym (number_mine u is) ∙ e ∙ number_theirs u is)
 
   -- the cut that is found is that of the two
-  pub cut_found : (a b : Held) (log : Log) (ws : Writes) (found : Option ℕ) → option_map (λ (s : Slot). s.state) (slot_at now.seats i 0) ≡ Some a
-      → option_map (λ (s : Slot). s.state) (slot_at now.seats of 0) ≡ Some b → log ≡ a.log → ws ≡ b.writes → found ≡ point log.reads ws
+  pub cut_found : (found : Option ℕ) → ((x y : Seat) → slice_get now.seats i ≡ Some x → slice_get now.seats of ≡ Some y → found ≡ seat_cut y x)
       → (u : Seat) → slice_get start.seats of ≡ Some u → seat_cut u r ≡ found
-  cut_found a b log ws found read_a read_b is_log is_ws e u is =
-      let is_a : r.optimistic.state ≡ a = state-at now.seats i r a (next_there start now txns i u r (cut.seats u is) next) read_a in
-      let is_b : u.optimistic.state ≡ b = state-at now.seats of u b (committed_there start now txns i u r (cut.seats u is) next of is) read_b in
-      sym (e ∙ ap₂ point (ap (λ (l : Log). l.reads) (is_log ∙ ap (λ (s : Held). s.log) (sym is_a))) (is_ws ∙ ap (λ (s : Held). s.writes) (sym is_b)))
+  cut_found found e u is = sym (e r u (next_there start now txns i u r (cut.seats u is) next) (committed_there start now txns i u r (cut.seats u is) next of is))
+
+  -- it stands at another place
+  pub places_apart : mine ≢ theirs → of < length start.seats → i ≢ of
+  places_apart ne lt same =
+      let u = slice_get-some start.seats of lt in
+      let both : Some r ≡ Some u.0 = sym next ∙ ap (slice_get start.seats) same ∙ u.1 in
+      apart ne u.0 u.1 (ap (λ (x : Seat). x.number) (same_Some r u.0 both))
 
   -- it is the one that commits
   pub own_passed : (new : Seated) (told : List (ℕ × ℕ)) → new ≡ now → told ≡ seen → mine ≡ theirs → AreCut start new txns of (i + 1) before told

@@ -28,6 +28,7 @@ use Rattle.forest_model.proofs.GiveLaws.{same_reads-true, job-lands, quiet, quie
 use Rattle.forest_model.proofs.StoreLaws.{wanted-kept, stored-lists}
 use Rattle.shadow_state.specs.Bank.{Slot, at_place}
 use Rattle.shadow_lanes.specs.Seats.{Waiter, Seat, Seated, conflicts_of, shadow_of, started_of, stepped_slot, slots_of, waiter_with, seat_with}
+use Rattle.indexed_lanes.specs.Noted.{HasSameLists}
 use Rattle.shadow_forest.specs.declared.txn.Txn.{Txn}
 use Rattle.shadow_forest.specs.Bench.{Outside, job_of, IsOutside, takes}
 use Rattle.shadow_forest.specs.Parts.{further_slot, first_place}
@@ -239,6 +240,7 @@ module _ (journal : Recorded) (d : Tables) (kept : List Txn) (queue : List ℕ) 
     pub gives : give f job ≡ Some (forest_of journal d (after_it slot))
     pub run : SlotStands p d (record { state = st; out = false })
     pub over : IsJobOver d job
+    pub lists : slot ≡ 0 → HasSameLists a.seat.optimistic.state st
 
   -- A shadow that waits.
 
@@ -258,6 +260,7 @@ module _ (journal : Recorded) (d : Tables) (kept : List Txn) (queue : List ℕ) 
         gives = gives ∙ ap (λ g. Some g) (sym numbers);
         run = lands e;
         over = present_job e;
+        lists = λ is. absurd (grind (arith, is));
       }
 
   -- The optimistic one.
@@ -362,7 +365,14 @@ module _ (journal : Recorded) (d : Tables) (kept : List Txn) (queue : List ℕ) 
           ∙ ap (λ g. Some g) (quiet_settle ∙ (sym mid_forest ∙ ap (λ (xs : List Seat). forest_of journal d (record s { seats = xs })) (sym mid_seats)));
       run = lands e;
       over = present_job e;
+      lists = λ is. record {
+        reads = sym (ap (λ (x : Running). x.reads) (lands e).is.is) ∙ same_reads_of ∙ ap (reads p d) stood ∙ ap (λ (x : Running). x.reads) a.stands.optimistic.is.is;
+        writes = sym (ap (λ (x : Running). x.writes) (lands e).is.is) ∙ same_writes_of ∙ ap (writes p d) stood ∙ ap (λ (x : Running). x.writes) a.stands.optimistic.is.is;
+      };
     }
+      where
+        stood : r.position ≡ a.seat.optimistic.state.position
+        stood = ap (λ (y : Started). y.position) (sym a.is)
 
   -- the first slot that takes it has stored it
   pub stored : (slot : ℕ) → Some slot ≡ first_place test (slots_of a.seat) → IsStored slot

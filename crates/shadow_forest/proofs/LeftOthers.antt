@@ -26,7 +26,8 @@ use Rattle.shadow_forest.specs.View.{View}
 use Rattle.shadow_forest.specs.Kept.{forest_of, SeatStands, IsForest}
 use Rattle.shadow_forest.proofs.OptimisticCall.{IsCall}
 use Rattle.shadow_forest.proofs.Wanting.{reads_are}
-use Rattle.shadow_forest.proofs.StepWants.{read_step, write_step, point_unread, wants_points, wants_same}
+use Rattle.indexed_lanes.proofs.Steps.{read_step, write_step}
+use Rattle.shadow_forest.proofs.StepWants.{point_unread, wants_points, wants_same}
 
 none_of : (xs : List Conflict) (k : ℕ) → k ≡ 1 → wanted_of xs k ≡ []
 none_of xs k e = rw e refl

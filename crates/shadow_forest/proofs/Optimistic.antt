@@ -36,7 +36,8 @@ use Rattle.shadow_forest.proofs.Placing.{IsAt, all_coded, all_carried, nodes_are
 use Rattle.shadow_forest.proofs.Wanting.{reads_are, writes_are, wanted_are}
 use Rattle.shadow_forest.proofs.SettledForest.{all_unmapped, found_each, IsSettling, settled_forest, settled_change}
 use Rattle.shadow_forest.proofs.Seating.{renewed_numbers, renewed_conflicts, renewed_stands, renewed_number, renewed_optimistic}
-use Rattle.shadow_forest.proofs.StepWants.{point_push, point_unread, local_step, read_step, write_step, wants_points, wants_same}
+use Rattle.indexed_lanes.proofs.Steps.{local_step, read_step, write_step}
+use Rattle.shadow_forest.proofs.StepWants.{point_push, point_unread, wants_points, wants_same}
 use Rattle.shadow_forest.proofs.Renewing.{is_reader}
 
 -- the transaction with its optimistic state one step on

@@ -25,12 +25,13 @@ use Rattle.forest_model.proofs.RunLaws.{going-below_length}
 use Rattle.shadow_state.specs.Bank.{Slot, at_place}
 use Rattle.shadow_lanes.specs.Seats.{Seat, Seated, slots_of, slot_at, started_of, stepped_slot, seat_with, StepsOver}
 use Rattle.shadow_forest.specs.View.{View}
+use Rattle.indexed_lanes.specs.Noted.{RunsHere}
 use Rattle.shadow_forest.specs.declared.txn.Txn.{Txn}
 use Rattle.shadow_forest.specs.Parts.{nodes_at, renewed, wanted_among, readers_renewed}
 use Rattle.shadow_forest.specs.Ready.{AreCarried}
 use Rattle.forest_model.specs.Point.{Conflict}
 use Rattle.shadow_forest.specs.Kept.{forest_of, IsForest}
-use Rattle.shadow_forest.proofs.Placing.{IsAtView, some_same, nodes_are, runs}
+use Rattle.shadow_forest.proofs.Placing.{IsAtView, some_same, nodes_are, runs, runs_here}
 use Rattle.shadow_forest.proofs.Optimistic.{IsNext, IsStepOf, event_is, next_is, local_done, read_done, write_done, write_carried}
 use Rattle.shadow_forest.proofs.Places.{slice_get-at_place_same, length-at_place}
 use Rattle.shadow_forest.proofs.Seating.{renewed_optimistic}
@@ -74,10 +75,10 @@ module _ (journal : Recorded) (d : Tables) (kept : List Txn) (queue : List ℕ) 
   pub not_done : kind ≢ Ended → c.v.a.seat.optimistic.state.done ≡ false
   not_done other = either (cases_Bool c.v.a.seat.optimistic.state.done) (λ e. absurd (other (c.ended.1 e))) (λ e. e)
 
-  pub may_go : kind ≢ Ended → (x : Slot) → slot_at s.seats at 0 ≡ Some x → Runs nodes x.state × (x.state.done ≡ false)
+  pub may_go : kind ≢ Ended → (x : Slot) → slot_at s.seats at 0 ≡ Some x → RunsHere nodes d x.state × (x.state.done ≡ false)
   may_go other x there =
       let same : x ≡ c.v.a.seat.optimistic = some_same _ _ (sym there ∙ first_slot s at c.v.a.seat c.v.a.there) in
-      rw same (runs journal d kept s at t c.v.started c.v.a nodes c.v.a.seat.optimistic c.all.items c.code c.v.a.stands.optimistic, not_done other)
+      rw same (runs_here journal d kept s at t c.v.started c.v.a nodes c.v.a.seat.optimistic c.all.items c.code c.v.a.stands.optimistic, not_done other)
 
   -- at its end it does not step
   pub has_ended_is : kind ≡ Ended → (r : Started) → find_started now.numbers.started t ≡ Some r → now.numbers ≡ forest_of journal d s → step_role now.numbers Optimistic r ≡ Err HasEnded
@@ -162,7 +163,7 @@ module _ (journal : Recorded) (d : Tables) (kept : List Txn) (queue : List ℕ) 
   pub renewed_below : (first : Seated) (ws : List Conflict) → first ≡ record s { seats = at_place at (renewed nodes s.items ws) s.seats } → at < length first.seats
   renewed_below first ws renew_is = subst (λ (x : Seated). at < length x.seats) (sym renew_is) (subst (λ n. at < n) (sym (length-at_place at (renewed nodes s.items ws) s.seats)) c.v.a.below)
 
-  pub renewed_go : (first : Seated) (ws : List Conflict) → kind ≢ Ended → first ≡ record s { seats = at_place at (renewed nodes s.items ws) s.seats } → (x : Slot) → slot_at first.seats at 0 ≡ Some x → Runs nodes x.state × (x.state.done ≡ false)
+  pub renewed_go : (first : Seated) (ws : List Conflict) → kind ≢ Ended → first ≡ record s { seats = at_place at (renewed nodes s.items ws) s.seats } → (x : Slot) → slot_at first.seats at 0 ≡ Some x → RunsHere nodes d x.state × (x.state.done ≡ false)
   renewed_go first ws other renew_is x there =
       let same : x ≡ c.v.a.seat.optimistic = some_same _ _ (sym there ∙ renewed_slot first ws renew_is) in
       rw same (may_go journal d kept queue s at t now nodes state kind c other c.v.a.seat.optimistic (first_slot s at c.v.a.seat c.v.a.there))

@@ -18,6 +18,8 @@ use Rattle.forest_model.proofs.StartedLaws.{found-number}
 use Rattle.forest_model.proofs.StoreLaws.{few-shadows}
 use Rattle.shadow_state.specs.Bank.{Slot}
 use Rattle.shadow_lanes.specs.Seats.{Seat, Seated, conflict_of, conflicts_of, shadow_of, started_of}
+use Rattle.indexed_lanes.specs.Noted.{RunsHere}
+use Rattle.indexed_lanes.proofs.Steps.{runs_of}
 use Rattle.shadow_forest.specs.declared.txn.Txn.{Txn}
 use Rattle.shadow_forest.specs.Parts.{nodes_in, nodes_at}
 use Rattle.shadow_forest.specs.View.{View}
@@ -104,19 +106,23 @@ nodes_are journal d kept s at t r a = ap nodes_in a.txn_there ∙ a.of_txn.code 
 pub carries : (journal : Recorded) (d : Tables) (kept : List Txn) (s : Seated) (at t : ℕ) (r : Started) (a : IsAt journal d kept s at t r) → Carries (nodes_at kept t) s.items
 carries journal d kept s at t r a = record { body = program_of journal.entries t; program = a.of_txn.program; fits = a.of_txn.fits; code = nodes_are journal d kept s at t r a }
 
--- a state of it may make a step
-pub runs : (journal : Recorded) (d : Tables) (kept : List Txn) (s : Seated) (at t : ℕ) (r : Started) (a : IsAt journal d kept s at t r) (nodes : List Node) (x : Slot) → s.items ≡ length d
-    → nodes ≡ nodes_at kept t → SlotStands (program_of journal.entries t) d x → Runs nodes x.state
-runs journal d kept s at t r a nodes x size is h =
+-- a state of it may make a step over the tables
+pub runs_here : (journal : Recorded) (d : Tables) (kept : List Txn) (s : Seated) (at t : ℕ) (r : Started) (a : IsAt journal d kept s at t r) (nodes : List Node) (x : Slot) → s.items ≡ length d
+    → nodes ≡ nodes_at kept t → SlotStands (program_of journal.entries t) d x → RunsHere nodes d x.state
+runs_here journal d kept s at t r a nodes x size is h =
     let code : nodes_of (program_of journal.entries t) ≡ nodes = sym (is ∙ nodes_are journal d kept s at t r a) in
-    subst (λ ns. Runs ns x.state) code
+    subst (λ ns. RunsHere ns d x.state) code
     (record {
       body = program_of journal.entries t;
-      tables = d;
       program = a.of_txn.program;
       fits = subst (λ n. reach (program_of journal.entries t) ≤ n) (size ∙ h.items) a.of_txn.fits;
       over = h;
     })
+
+-- and over any tables, where it needs none
+pub runs : (journal : Recorded) (d : Tables) (kept : List Txn) (s : Seated) (at t : ℕ) (r : Started) (a : IsAt journal d kept s at t r) (nodes : List Node) (x : Slot) → s.items ≡ length d
+    → nodes ≡ nodes_at kept t → SlotStands (program_of journal.entries t) d x → Runs nodes x.state
+runs journal d kept s at t r a nodes x size is h = runs_of nodes d x.state (runs_here journal d kept s at t r a nodes x size is h)
 
 pub some_same : {A : Type 0} (x y : A) → Some x ≡ Some y → x ≡ y
 some_same x y e = cc

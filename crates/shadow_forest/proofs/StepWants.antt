@@ -41,20 +41,6 @@ point_push item position v ws (x ∷ rs) h =
     (λ e. rw e refl)
     ∙ sym (ap (point_with (Some item) position ws) (point_cons x ws rs))
 
--- What each kind of step changes.
-
-pub one_step : (p : Program) (d : Tables) (n : ℕ) → Changes (kind_of (after p d n)) d n (after p d n) (after p d (suc n))
-one_step p d n = let e : n + 1 ≡ suc n = omega arith in subst (λ m. Changes (kind_of (after p d n)) d n (after p d n) (after p d m)) e (after_changes p d n)
-
-pub local_step : (p : Program) (d : Tables) (n : ℕ) → kind_of (after p d n) ≡ Local → (reads p d (suc n) ≡ reads p d n) × (writes p d (suc n) ≡ writes p d n)
-local_step p d n kind = subst (λ k. Changes k d n (after p d n) (after p d (suc n))) kind (one_step p d n)
-
-pub read_step : (p : Program) (d : Tables) (n item : ℕ) → kind_of (after p d n) ≡ TableRead item → (reads p d (suc n) ≡ reads p d n ++ (n, item, stored d item) ∷ []) × (writes p d (suc n) ≡ writes p d n)
-read_step p d n item kind = subst (λ k. Changes k d n (after p d n) (after p d (suc n))) kind (one_step p d n)
-
-pub write_step : (p : Program) (d : Tables) (n item : ℕ) (v : ℤ) → kind_of (after p d n) ≡ Write item v → (reads p d (suc n) ≡ reads p d n) × (writes p d (suc n) ≡ slice_set (writes p d n) item (Some v))
-write_step p d n item v kind = subst (λ k. Changes k d n (after p d n) (after p d (suc n))) kind (one_step p d n)
-
 -- The point after one write more.
 
 -- what was read is changed as before by the write of another item

@@ -32,11 +32,12 @@ use Rattle.forest_model.proofs.SettleLaws.{wanted-mapped}
 use Rattle.forest_model.proofs.StepLaws.{step-sound}
 use Rattle.shadow_state.specs.Bank.{Slot, at_place}
 use Rattle.shadow_lanes.specs.Seats.{Waiter, Seat, Seated, conflict_of, conflicts_of, shadow_of, started_of, stepped_slot, slots_of, slot_at, waiter_with, seat_with, StepsOver}
+use Rattle.indexed_lanes.specs.Noted.{RunsHere}
 use Rattle.shadow_forest.specs.declared.txn.Txn.{Txn}
 use Rattle.shadow_forest.specs.Parts.{further_slot, slot_of, nodes_at}
 use Rattle.shadow_forest.specs.Kept.{forest_of, SlotStands, SeatStands, IsForest}
 use Rattle.shadow_forest.proofs.Keeping.{seat_number, at_number, at_number_keeps, place_is_number, alone, all_at, all_at_number, IsChange, changed}
-use Rattle.shadow_forest.proofs.Placing.{IsAt, IsAtView, some_same, slice_below, nodes_are, runs}
+use Rattle.shadow_forest.proofs.Placing.{IsAt, IsAtView, some_same, slice_below, nodes_are, runs_here}
 use Rattle.shadow_forest.specs.View.{View}
 
 first_runs : (s : Shadow) (st : Standing) (a : ℕ × List Shadow) → put_first s (if_runnable st a) ≡ if_runnable st (a.0, s ∷ a.1)
@@ -406,14 +407,14 @@ slotted journal d kept s at t now u slot v first of_first is r there =
     subst (λ x. slot < length (slots_of x)) (some_same _ _ (sym w.a.there ∙ there)) w.in_slots
 
 pub may_step : (journal : Recorded) (d : Tables) (kept : List Txn) (s : Seated) (at t : ℕ) (now : View) (u slot : ℕ) (list : List Conflict) (state : Held) (k : IsKnown journal d kept s at t now u slot list state) (x : Slot) (nodes : List Node)
-    → s.items ≡ length d → nodes ≡ nodes_at kept t → slot_at s.seats at slot ≡ Some x → Runs nodes x.state × (x.state.done ≡ false)
+    → s.items ≡ length d → nodes ≡ nodes_at kept t → slot_at s.seats at slot ≡ Some x → RunsHere nodes d x.state × (x.state.done ≡ false)
 may_step journal d kept s at t now u slot list state k x nodes size code there =
     let same : x ≡ k.w.found.waiter.slot = some_same _ _ (sym there ∙ k.w.slot_is) in
     let le : k.w.found.waiter.slot.state.position ≤ k.w.found.waiter.point = k.w.up_to_point in
     let lt : k.w.found.waiter.point < length_of (forest_of journal d s) k.v.started = k.w.below_end in
     let number : k.v.started.number ≡ t = ap (λ (y : Started). y.number) (sym k.w.a.is) ∙ k.w.a.number in
     let low : k.w.found.waiter.slot.state.position < run_length (program_of journal.entries t) d = subst (λ n. k.w.found.waiter.slot.state.position < run_length (program_of journal.entries n) d) number (omega (arith, le, lt)) in
-    rw same (runs journal d kept s at t k.v.started k.w.a nodes k.w.found.waiter.slot size code k.w.stands, goes_on (program_of journal.entries t) d k.w.found.waiter.slot k.w.stands low)
+    rw same (runs_here journal d kept s at t k.v.started k.w.a nodes k.w.found.waiter.slot size code k.w.stands, goes_on (program_of journal.entries t) d k.w.found.waiter.slot k.w.stands low)
 
 pub small_position : (journal : Recorded) (d : Tables) (kept : List Txn) (s : Seated) (at t : ℕ) (now : View) (u slot : ℕ) (list : List Conflict) (state : Held) (k : IsKnown journal d kept s at t now u slot list state) → state.position ≤ 100000
 small_position journal d kept s at t now u slot list state k =

@@ -22,7 +22,7 @@ use Rattle.shadow_forest.specs.Kept.{SlotStands, SeatStands}
 use Rattle.shadow_forest.proofs.Seating.{role_stands}
 use Rattle.shadow_forest.proofs.Moving.{IsBehind, role_behind}
 use Rattle.shadow_forest.proofs.Wanting.{writes_are}
-use Rattle.shadow_forest.proofs.StepWants.{one_step}
+use Rattle.indexed_lanes.proofs.Steps.{one_step}
 
 -- what was not among the first writes is not among the second
 abbrev pub WroteLess : Writes → Writes → Type 0

@@ -10,12 +10,16 @@ ghost use Rattle.shadow_forest.specs.Kept.{numbers_waiting, AreQueued};
 
 use crate::answers::Resumed;
 use crate::txn::{Txn, code_of, deadline_of};
-use commit_rule::cut;
-use shadow_lanes::Lanes;
+use indexed_lanes::IndexedLanes;
 use wait_list::WaitList;
 
 /// Cuts the others by the writes of the transaction at a place, and tells whom that takes back.
-pub(crate) fn cut_others(lanes: &mut Lanes, of: u32, txns: &[Txn], resumed: &mut Vec<Resumed>)
+pub(crate) fn cut_others(
+    lanes: &mut IndexedLanes,
+    of: u32,
+    txns: &[Txn],
+    resumed: &mut Vec<Resumed>,
+)
     requires of { of < length lanes.old.seats }
     requires carried { AreCarried lanes.old.items txns.now lanes.old.seats }
     requires room { length resumed.old.items + length lanes.old.seats ≤ vec_capacity resumed.old }
@@ -27,7 +31,7 @@ pub(crate) fn cut_others(lanes: &mut Lanes, of: u32, txns: &[Txn], resumed: &mut
     for place in 0..lanes.len() {
         let number = lanes.number(place);
         if number != committed {
-            match cut(lanes.state(place, 0).reads(), lanes.state(of, 0).writes()) {
+            match lanes.point_between(place, of) {
                 None => {}
                 Some(at) => {
                     lanes.promote(place, at, code_of(txns, number));
@@ -43,7 +47,11 @@ pub(crate) fn cut_others(lanes: &mut Lanes, of: u32, txns: &[Txn], resumed: &mut
 }
 
 /// Starts the first that waits, where a lane is free, and answers who it is.
-pub(crate) fn start_waiting(lanes: &mut Lanes, waiting: &mut WaitList, txns: &[Txn]) -> Option<u32>
+pub(crate) fn start_waiting(
+    lanes: &mut IndexedLanes,
+    waiting: &mut WaitList,
+    txns: &[Txn],
+) -> Option<u32>
     requires carried { AllByRecursion (IsCarried lanes.old.items txns.now) (numbers_waiting waiting.old) }
     requires apart { AllByRecursion (λ t. find_seat lanes.old.seats t ≡ None) (numbers_waiting waiting.old) }
     requires queued { AreQueued txns.now waiting.old }

@@ -39,9 +39,9 @@ use crate::settling::{is_read_by_others, renew, renew_around, renew_readers, wan
 use crate::txn::{Txn, code_of, deadline_of, free_code};
 use block_rule::{Role, Row, Standing, status};
 use forest_model::Did;
+use indexed_lanes::IndexedLanes;
 use item_table::Table;
 use journal_core::{Entry, Journal};
-use shadow_lanes::Lanes;
 use std::alloc::{AllocError, Global};
 use std::marker::Model;
 use std::sync::ledger::Ledger;
@@ -67,7 +67,7 @@ pub struct Forest {
     // for what each transaction emits, number 1 first; who has ended has none
     rooms: Vec<EmitRoom>,
     waiting: WaitList,
-    lanes: Lanes,
+    lanes: IndexedLanes,
     resumed: Vec<Resumed>,
     starts: Option<u32>,
 }
@@ -105,7 +105,7 @@ impl Forest {
         ensures { IfOk result (λ f. f ≡ opened_view table k lanes) }
     {
         let items = table.len();
-        let lines = Lanes::open(alloc, items, k, lanes)?;
+        let lines = IndexedLanes::open(alloc, items, k, lanes)?;
         let opening = table.copy()?;
         let mut journal = Journal::new(alloc, opening);
         journal.reserve(1)?;

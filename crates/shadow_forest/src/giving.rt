@@ -5,11 +5,11 @@ ghost use Rattle.shadow_lanes.specs.Seats.{Seat, slots_of, slot_at};
 ghost use Rattle.shadow_forest.specs.Parts.{first_place};
 ghost use Rattle.shadow_forest.specs.Bench.{takes as takes_of};
 
-use shadow_lanes::Lanes;
+use indexed_lanes::IndexedLanes;
 use txn_interp::State;
 
 /// The slot of the first shadow of the transaction at a place that stands here, is out, and has read what the state has.
-pub(crate) fn slot_out(lanes: &Lanes, place: u32, from: u32, state: &State) -> Option<u32>
+pub(crate) fn slot_out(lanes: &IndexedLanes, place: u32, from: u32, state: &State) -> Option<u32>
     requires { place < length lanes.now.seats }
     ensures { (r : Seat) → slice_get lanes.now.seats place ≡ Some r → result ≡ first_place (takes_of from state.now.log.reads) (slots_of r) }
 {
@@ -25,7 +25,7 @@ pub(crate) fn slot_out(lanes: &Lanes, place: u32, from: u32, state: &State) -> O
 }
 
 // Whether the shadow in a slot stands here, is out, and has read what the state has.
-fn takes(lanes: &Lanes, place: u32, slot: u32, from: u32, state: &State) -> bool
+fn takes(lanes: &IndexedLanes, place: u32, slot: u32, from: u32, state: &State) -> bool
     requires place { place < length lanes.now.seats }
     requires slot { (r : Seat) → slice_get lanes.now.seats place ≡ Some r → slot < length (slots_of r) }
     ensures { (s : Slot) → slot_at lanes.now.seats place slot ≡ Some s → result ≡ takes_of from state.now.log.reads s }

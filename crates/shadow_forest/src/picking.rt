@@ -8,11 +8,11 @@ ghost use Rattle.shadow_forest.specs.Ready.{AreCarried};
 
 use crate::txn::{Txn, deadline_of};
 use block_rule::{Role, Row, status};
+use indexed_lanes::IndexedLanes;
 use ready_order::{earlier, is_ready};
-use shadow_lanes::Lanes;
 
 /// The first of all shadows that may make a step and are not out.
-pub(crate) fn pick(lanes: &Lanes, txns: &[Txn]) -> Option<Row>
+pub(crate) fn pick(lanes: &IndexedLanes, txns: &[Txn]) -> Option<Row>
     requires { AreCarried lanes.now.items txns.now lanes.now.seats }
     ensures { result ≡ pick_of (all_rows txns.now lanes.now.seats) }
 {
@@ -24,7 +24,7 @@ pub(crate) fn pick(lanes: &Lanes, txns: &[Txn]) -> Option<Row>
 }
 
 // The better of what was best and the best row of the transaction at a place.
-fn pick_at(lanes: &Lanes, txns: &[Txn], place: u32, best: Option<Row>) -> Option<Row>
+fn pick_at(lanes: &IndexedLanes, txns: &[Txn], place: u32, best: Option<Row>) -> Option<Row>
     requires place { place < length lanes.now.seats }
     requires carried { AreCarried lanes.now.items txns.now lanes.now.seats }
     ensures { (r : Seat) (before : List RowOf) → slice_get lanes.now.seats place ≡ Some r → best ≡ pick_of before → result ≡ pick_of (before ++ seat_rows txns.now r) }
@@ -54,7 +54,7 @@ fn comes_first(best: Option<Row>, txn: u32, deadline: u64) -> bool
 }
 
 // A shadow as the pick sees it.
-fn row_at(lanes: &Lanes, txns: &[Txn], place: u32, slot: u32) -> Row
+fn row_at(lanes: &IndexedLanes, txns: &[Txn], place: u32, slot: u32) -> Row
     requires place { place < length lanes.now.seats }
     requires slot { (r : Seat) → slice_get lanes.now.seats place ≡ Some r → slot < length (slots_of r) }
     requires carried { AreCarried lanes.now.items txns.now lanes.now.seats }
@@ -76,7 +76,7 @@ fn row_at(lanes: &Lanes, txns: &[Txn], place: u32, slot: u32) -> Row
 ghost use Rattle.block_rule.specs.Standing.{has_point};
 
 // The role and the point of a shadow.
-pub(crate) fn role_at(lanes: &Lanes, place: u32, slot: u32) -> (Role, Option<u32>)
+pub(crate) fn role_at(lanes: &IndexedLanes, place: u32, slot: u32) -> (Role, Option<u32>)
     requires place { place < length lanes.now.seats }
     requires slot { (r : Seat) → slice_get lanes.now.seats place ≡ Some r → slot < length (slots_of r) }
     ensures role { (r : Seat) → slice_get lanes.now.seats place ≡ Some r → result ≡ role_in r slot }

@@ -6,7 +6,7 @@ ghost use Rattle.shadow_forest.specs.Parts.{is_prior_at, later_of};
 ghost use Rattle.shadow_forest.specs.Ready.{AreCarried, IsAmong};
 
 use crate::txn::{Txn, deadline_of};
-use shadow_lanes::Lanes;
+use indexed_lanes::IndexedLanes;
 
 // The one that comes first; of two with one priority the one that was there.
 fn prior(best: Option<u32>, txn: u32, txns: &[Txn]) -> Option<u32>
@@ -29,7 +29,7 @@ fn prior(best: Option<u32>, txn: u32, txns: &[Txn]) -> Option<u32>
 }
 
 /// The first by priority of those whose optimistic shadow has run to its end.
-pub(crate) fn first_ended(lanes: &Lanes, txns: &[Txn]) -> Option<u32>
+pub(crate) fn first_ended(lanes: &IndexedLanes, txns: &[Txn]) -> Option<u32>
     requires { AreCarried lanes.now.items txns.now lanes.now.seats }
     ensures { result ≡ first_by (is_prior_at txns.now) (map (λ (r : Seat). r.number) (filter (λ (r : Seat). r.optimistic.state.done) lanes.now.seats)) }
 {

@@ -11,17 +11,18 @@ ghost use Rattle.shadow_forest.specs.Ready.{AreCarried, IsCarried};
 
 use crate::answers::Resumed;
 use crate::txn::{Txn, code_of};
-use access_sets::WriteSet;
 use arrayvec::ArrayVec;
-use conflict_table::point;
+use indexed_lanes::IndexedLanes;
 use replacement::wanted;
-use shadow_lanes::Lanes;
 use txn_code::Code;
-use txn_interp::State;
 
 /// The guards and points against which the transaction at a place wants a shadow, now or, where it is about to read an item, after
 /// that read.
-pub(crate) fn wanted_at(lanes: &Lanes, place: u32, next: Option<u32>) -> ArrayVec<(u32, u32), 7>
+pub(crate) fn wanted_at(
+    lanes: &IndexedLanes,
+    place: u32,
+    next: Option<u32>,
+) -> ArrayVec<(u32, u32), 7>
     requires { place < length lanes.now.seats }
     ensures wanted { (r : Seat) → slice_get lanes.now.seats place ≡ Some r → result.items ≡ wanted_among lanes.now.most next lanes.now.seats r }
     ensures few { suc (length result.items) ≤ lanes.now.most }
@@ -36,38 +37,44 @@ pub(crate) fn wanted_at(lanes: &Lanes, place: u32, next: Option<u32>) -> ArrayVe
 
 // Lays the points of the transaction at a place against all others into a list, which is empty before. A list that was answered would be
 // copied, and is long.
-fn note_points(lanes: &Lanes, place: u32, next: Option<u32>, points: &mut ArrayVec<(u32, u32), 64>)
+fn note_points(
+    lanes: &IndexedLanes,
+    place: u32,
+    next: Option<u32>,
+    points: &mut ArrayVec<(u32, u32), 64>,
+)
     requires place { place < length lanes.now.seats }
     requires empty { points.old.items ≡ [] }
     ensures limits { AreSeats lanes.now }
     ensures points { (r : Seat) → slice_get lanes.now.seats place ≡ Some r → points.new.items ≡ filter_map (conflict_between next r) lanes.now.seats }
 {
     let number = lanes.number(place);
-    let reader = lanes.state(place, 0);
     for other in 0..lanes.len() {
-        match conflict(lanes, other, number, reader, next) {
+        match conflict(lanes, other, number, place, next) {
             None => {}
             Some(pair) => points.push(pair),
         }
     }
 }
 
-// The conflict of a transaction of this number, whose optimistic state this is, with the one at a place.
+// The conflict of the transaction at a place, which has this number, with the one at another.
 fn conflict(
-    lanes: &Lanes,
+    lanes: &IndexedLanes,
     other: u32,
     number: u32,
-    reader: &State,
+    place: u32,
     next: Option<u32>,
 ) -> Option<(u32, u32)>
-    requires { other < length lanes.now.seats }
-    ensures { (r u : Seat) → r.number ≡ number → r.optimistic.state ≡ reader.now → slice_get lanes.now.seats other ≡ Some u → result ≡ conflict_between next r u }
+    requires other { other < length lanes.now.seats }
+    requires place { place < length lanes.now.seats }
+    requires number { (r : Seat) → slice_get lanes.now.seats place ≡ Some r → r.number ≡ number }
+    ensures { (r u : Seat) → slice_get lanes.now.seats place ≡ Some r → slice_get lanes.now.seats other ≡ Some u → result ≡ conflict_between next r u }
 {
     let guard = lanes.number(other);
     if guard == number {
         return None;
     }
-    match point_before(reader, lanes.state(other, 0).writes(), next) {
+    match point_before(lanes, place, other, next) {
         None => None,
         Some(at) => Some((guard, at)),
     }
@@ -76,18 +83,18 @@ fn conflict(
 ghost use Rattle.shadow_forest.specs.Parts.{point_with};
 ghost use Rattle.forest_model.specs.Point.{point as point_of};
 
-// The point of this state against these writes, now or after the read that comes next.
-fn point_before(reader: &State, writes: &WriteSet, next: Option<u32>) -> Option<u32>
-    ensures { result ≡ point_with next reader.now.position writes.now (point_of reader.now.log.reads writes.now) }
+// The point of the transaction at a place against the one at another, now or after the read that comes next.
+fn point_before(lanes: &IndexedLanes, place: u32, other: u32, next: Option<u32>) -> Option<u32>
+    requires place { place < length lanes.now.seats }
+    requires other { other < length lanes.now.seats }
+    requires different { place ≢ other }
+    ensures { (r u : Seat) → slice_get lanes.now.seats place ≡ Some r → slice_get lanes.now.seats other ≡ Some u
+        → result ≡ point_with next r.optimistic.state.position u.optimistic.state.writes (point_of r.optimistic.state.log.reads u.optimistic.state.writes) }
 {
-    // most write nothing for a while, and then no read need be looked at
-    if writes.len() == 0 {
-        return None;
-    }
-    match (point(reader.reads(), writes), next) {
+    match (lanes.point_between(place, other), next) {
         (None, Some(item)) => {
-            if writes.get(item).is_some() {
-                Some(reader.position())
+            if lanes.state(other, 0).writes().get(item).is_some() {
+                Some(lanes.state(place, 0).position())
             } else {
                 None
             }
@@ -97,7 +104,7 @@ fn point_before(reader: &State, writes: &WriteSet, next: Option<u32>) -> Option<
 }
 
 /// The transaction at a place has exactly these shadows; where it has them already, it stays as it is.
-pub(crate) fn renew(lanes: &mut Lanes, place: u32, conflicts: &[(u32, u32)], code: &Code)
+pub(crate) fn renew(lanes: &mut IndexedLanes, place: u32, conflicts: &[(u32, u32)], code: &Code)
     requires place { place < length lanes.old.seats }
     requires few { suc (length conflicts.now) ≤ lanes.old.most }
     requires carries { Carries code.now.nodes lanes.old.items }
@@ -124,7 +131,7 @@ fn are_same(some: &[(u32, u32)], other: &[(u32, u32)]) -> bool
 
 /// After a transaction's end, by which these were resumed, each of those and each that waits for one of them or for it has the
 /// shadows that it wants now. The others want what they wanted before.
-pub(crate) fn renew_around(lanes: &mut Lanes, txns: &[Txn], ended: u32, resumed: &[Resumed])
+pub(crate) fn renew_around(lanes: &mut IndexedLanes, txns: &[Txn], ended: u32, resumed: &[Resumed])
     requires { AreCarried lanes.old.items txns.now lanes.old.seats }
     ensures { lanes.new ≡ record lanes.old { seats = around_renewed lanes.old.most lanes.old.items txns.now ended (map resumed_pair resumed.now) lanes.old.seats } }
 {
@@ -136,7 +143,7 @@ pub(crate) fn renew_around(lanes: &mut Lanes, txns: &[Txn], ended: u32, resumed:
 }
 
 // Whether the transaction at a place was resumed, or waits for one that was, or for the one that ended.
-fn is_around(lanes: &Lanes, place: u32, ended: u32, resumed: &[Resumed]) -> bool
+fn is_around(lanes: &IndexedLanes, place: u32, ended: u32, resumed: &[Resumed]) -> bool
     requires { place < length lanes.now.seats }
     ensures { (r : Seat) → slice_get lanes.now.seats place ≡ Some r → result ≡ is_around_of ended (map resumed_pair resumed.now) r }
 {
@@ -170,7 +177,7 @@ fn is_touched(number: u32, ended: u32, resumed: &[Resumed]) -> bool
 
 /// After a transaction's write of an item each other one that has read it has the shadows that it wants now. The others want what
 /// they wanted before.
-pub(crate) fn renew_readers(lanes: &mut Lanes, txns: &[Txn], writer: u32, item: u32)
+pub(crate) fn renew_readers(lanes: &mut IndexedLanes, txns: &[Txn], writer: u32, item: u32)
     requires { AreCarried lanes.old.items txns.now lanes.old.seats }
     ensures { lanes.new ≡ record lanes.old { seats = readers_renewed lanes.old.most lanes.old.items txns.now writer item lanes.old.seats } }
 {
@@ -187,7 +194,7 @@ pub(crate) fn renew_readers(lanes: &mut Lanes, txns: &[Txn], writer: u32, item: 
 }
 
 // Whether the transaction at a place is another one than the writer, and has read the item.
-fn is_reader(lanes: &Lanes, place: u32, writer: u32, item: u32) -> bool
+fn is_reader(lanes: &IndexedLanes, place: u32, writer: u32, item: u32) -> bool
     requires { place < length lanes.now.seats }
     ensures { (r : Seat) → slice_get lanes.now.seats place ≡ Some r → result ≡ (not (r.number == writer) && has_read item r) }
 {
@@ -195,7 +202,7 @@ fn is_reader(lanes: &Lanes, place: u32, writer: u32, item: u32) -> bool
 }
 
 /// Whether another one than the writer has read the item; with one shadow a transaction nobody asks, and it is false.
-pub(crate) fn is_read_by_others(lanes: &Lanes, writer: u32, item: u32) -> bool
+pub(crate) fn is_read_by_others(lanes: &IndexedLanes, writer: u32, item: u32) -> bool
     ensures { result ≡ false → (lanes.now.most ≡ 1) ⊎ AllByRecursion (λ (r : Seat). r.number ≢ writer → has_read item r ≡ false) lanes.now.seats }
 {
     if lanes.most() == 1 {
@@ -210,7 +217,7 @@ pub(crate) fn is_read_by_others(lanes: &Lanes, writer: u32, item: u32) -> bool
 }
 
 // The transaction at a place has the shadows that it wants now.
-fn renew_at(lanes: &mut Lanes, txns: &[Txn], place: u32)
+fn renew_at(lanes: &mut IndexedLanes, txns: &[Txn], place: u32)
     requires place { place < length lanes.old.seats }
     requires carried { (r : Seat) → slice_get lanes.old.seats place ≡ Some r → IsCarried lanes.old.items txns.now r.number }
     ensures { (r : Seat) → slice_get lanes.old.seats place ≡ Some r

@@ -7,7 +7,7 @@ use Rattle.shadow_forest.specs.Parts.{seat_after}
 use Rattle.shadow_forest.specs.Ready.{IsCarried}
 use Rattle.shadow_forest.proofs.Places.{slice_get-some, length-at_place, so_far-all}
 use Rattle.shadow_forest.proofs.SeatPlaces.{with_seats}
-use Rattle.shadow_forest.proofs.Cutting.{carried-next, cut_found, own_passed, uncut_passed, cut_passed}
+use Rattle.shadow_forest.proofs.Cutting.{carried-next, cut_found, places_apart, own_passed, uncut_passed, cut_passed}
 use Rattle.shadow_forest.proofs.committing.cut_others.Goals as goal
 use Rattle.shadow_forest.proofs.committing.cut_others.Goals.{then-number-committed+in-None, then-number-committed+in-Some, else-number-committed}
 
@@ -30,6 +30,19 @@ code_of-requires-clause-most c =
     let lt : c.loop-place.place < length c.args.lanes.now.seats = omega (arith, c.loop-place-test.true, c.len-place-end.ensures.len) in
     (carried-next _ _ _ _ _ _ _ _ c.loop-place.invariant.cut c.requires.of lt c.requires.carried c.number-number.ensures).most
 
+pub point_between-requires-clause-reader : goal.point_between-requires-clause-reader
+point_between-requires-clause-reader c = omega (arith, c.loop-place.invariant.long, c.loop-place-test.true, c.len-place-end.ensures.len)
+
+pub point_between-requires-clause-writer : goal.point_between-requires-clause-writer
+point_between-requires-clause-writer c = omega (arith, c.loop-place.invariant.long, c.requires.of)
+
+pub point_between-requires-clause-different : goal.point_between-requires-clause-different
+point_between-requires-clause-different c =
+    let lt : c.loop-place.place < length c.args.lanes.now.seats = omega (arith, c.loop-place-test.true, c.len-place-end.ensures.len) in
+    let next = slice_get-some c.args.lanes.now.seats c.loop-place.place lt in
+    places_apart c.args.lanes.now c.loop-place.lanes c.args.txns.now c.args.of c.loop-place.place (map resumed_pair c.args.resumed.now.items) (map resumed_pair c.loop-place.resumed.items) c.number-number.result c.number-committed.result next.0
+    c.loop-place.invariant.cut next.1 c.number-number.ensures c.number-committed.ensures c.if-number-committed.true c.requires.of
+
 pub promote-requires-clause-carries : goal.promote-requires-clause-carries
 promote-requires-clause-carries c =
     let lt : c.loop-place.place < length c.args.lanes.now.seats = omega (arith, c.loop-place-test.true, c.len-place-end.ensures.len) in
@@ -39,8 +52,8 @@ promote-requires-clause-carries c =
     subst (λ (m : ℕ). Carries c.code_of.result.now.nodes m) (sym c.loop-place.invariant.items)
     (subst (λ ns. Carries ns c.args.lanes.now.items) (sym c.code_of.ensures) carried.carries)
 
-pub state-requires-in-Some-clause-place : goal.state-requires-in-Some-clause-place
-state-requires-in-Some-clause-place c =
+pub state-requires-clause-place : goal.state-requires-clause-place
+state-requires-clause-place c =
     let long = ap (λ s. length s.seats) c.promote.ensures
     ∙ length-at_place c.loop-place.place (promoted_seat c.code_of.result.now.nodes c.loop-place.lanes.items c.in-Some.at) c.loop-place.lanes.seats
     in
@@ -60,8 +73,7 @@ loop-place-preserved c =
                 c.number-number.ensures c.number-committed.ensures c.if-number-committed.lanes (map resumed_pair c.if-number-committed.resumed.items) w.lanes-is (ap (λ v. map resumed_pair v.items) w.resumed-is)
                 w.if-number-committed.true
                 (λ u is. cut_found c.args.lanes.now c.loop-place.lanes c.args.txns.now c.args.of c.loop-place.place before seen c.number-number.result c.number-committed.result next.0 c.loop-place.invariant.cut next.1
-                c.number-number.ensures c.number-committed.ensures w.state.result.now w.state-then-number-committed.result.now w.reads.result.now w.writes.result.now w.cut.result
-                w.state.ensures.state w.state-then-number-committed.ensures.state w.reads.ensures w.writes.ensures.set w.cut.ensures.cut u is ∙ w.in-None.is);
+                c.number-number.ensures c.number-committed.ensures w.point_between.result w.point_between.ensures u is ∙ w.in-None.is);
             long = ap (λ s. length s.seats) w.lanes-is ∙ c.loop-place.invariant.long;
             items = ap (λ s. s.items) w.lanes-is ∙ c.loop-place.invariant.items;
             few = omega (arith, ap (λ v. length v.items) w.resumed-is, c.loop-place.invariant.few);
@@ -71,7 +83,7 @@ loop-place-preserved c =
           record {
             cut =
                 cut_passed c.args.lanes.now c.loop-place.lanes c.args.txns.now c.args.of c.loop-place.place before seen c.number-number.result c.number-committed.result next.0 c.loop-place.invariant.cut next.1
-                c.number-number.ensures c.number-committed.ensures c.if-number-committed.lanes (map resumed_pair c.if-number-committed.resumed.items) w.code_of.result.now.nodes w.in-Some.at w.state-in-Some.result.now
+                c.number-number.ensures c.number-committed.ensures c.if-number-committed.lanes (map resumed_pair c.if-number-committed.resumed.items) w.code_of.result.now.nodes w.in-Some.at w.state.result.now
                 (w.lanes-is ∙ w.promote.ensures)
                 (ap (λ v. map resumed_pair v.items) w.resumed-is
                 ∙ ap (map resumed_pair) w.push_reserved.ensures.items
@@ -79,10 +91,9 @@ loop-place-preserved c =
                 ∙ ap (λ (p : ℕ). seen ++ (c.number-number.result, p) ∷ []) w.position-position.ensures)
                 w.if-number-committed.true
                 (λ u is. cut_found c.args.lanes.now c.loop-place.lanes c.args.txns.now c.args.of c.loop-place.place before seen c.number-number.result c.number-committed.result next.0 c.loop-place.invariant.cut next.1
-                c.number-number.ensures c.number-committed.ensures w.state.result.now w.state-then-number-committed.result.now w.reads.result.now w.writes.result.now w.cut.result
-                w.state.ensures.state w.state-then-number-committed.ensures.state w.reads.ensures w.writes.ensures.set w.cut.ensures.cut u is ∙ w.in-Some.is)
+                c.number-number.ensures c.number-committed.ensures w.point_between.result w.point_between.ensures u is ∙ w.in-Some.is)
                 w.code_of.ensures
-                (rw w.lanes-is w.state-in-Some.ensures.state);
+                (rw w.lanes-is w.state.ensures.state);
             long =
                 ap (λ s. length s.seats) (w.lanes-is ∙ w.promote.ensures)
                 ∙ length-at_place c.loop-place.place (promoted_seat w.code_of.result.now.nodes c.loop-place.lanes.items w.in-Some.at) c.loop-place.lanes.seats

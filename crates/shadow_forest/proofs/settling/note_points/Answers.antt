@@ -2,7 +2,7 @@ use Rattle.std.proofs.Common.{◌≡◌, ◌<◌, ◌++◌, [], ◌∷◌, lengt
 use Rattle.std.proofs.lemmas.List.{take_all, length_push}
 use Rattle.shadow_forest.specs.Parts.{conflict_between}
 use Rattle.shadow_forest.proofs.Places.{slice_get-some, filter_map_more-none, filter_map_more-some}
-use Rattle.shadow_forest.proofs.SeatPlaces.{number-at, state-at}
+use Rattle.shadow_forest.proofs.SeatPlaces.{number-at}
 use Rattle.shadow_forest.proofs.settling.note_points.Goals as goal
 use Rattle.shadow_forest.proofs.settling.note_points.Goals.{in-None, in-Some}
 
@@ -11,6 +11,9 @@ loop-other-init c = record { points = λ r is. c.requires.empty; few = omega (ar
 
 pub push-requires : goal.push-requires
 push-requires c = let few = c.len-other-end.ensures.seats in (omega arith, omega (arith, c.loop-other.invariant.few, c.loop-other-test.true, c.len-other-end.ensures.len, few.few, few.many))
+
+pub conflict-requires-clause-number : goal.conflict-requires-clause-number
+conflict-requires-clause-number c = λ r is. number-at c.args.lanes.now.seats c.args.place r c.number-number.result is c.number-number.ensures
 
 pub loop-other-preserved : goal.loop-other-preserved
 loop-other-preserved c =
@@ -21,7 +24,7 @@ loop-other-preserved c =
           record {
             points =
                 λ r is. ap (λ v. v.items) w.points-is ∙ c.loop-other.invariant.points r is
-                ∙ sym (filter_map_more-none (conflict_between c.args.next r) c.args.lanes.now.seats c.loop-other.other here.0 here.1 (sym (c.conflict.ensures r here.0 (number-at c.args.lanes.now.seats c.args.place r c.number-number.result is c.number-number.ensures) (state-at c.args.lanes.now.seats c.args.place r c.state-reader.result.now is c.state-reader.ensures.state) here.1) ∙ w.in-None.is));
+                ∙ sym (filter_map_more-none (conflict_between c.args.next r) c.args.lanes.now.seats c.loop-other.other here.0 here.1 (sym (c.conflict.ensures r here.0 is here.1) ∙ w.in-None.is));
             few = omega (arith, ap (λ v. length v.items) w.points-is, c.loop-other.invariant.few);
           }
       | in-Some w ↦
@@ -29,7 +32,7 @@ loop-other-preserved c =
           record {
             points =
                 λ r is. pushed ∙ ap (λ ps. ps ++ w.in-Some.pair ∷ []) (c.loop-other.invariant.points r is)
-                ∙ sym (filter_map_more-some (conflict_between c.args.next r) c.args.lanes.now.seats c.loop-other.other here.0 w.in-Some.pair here.1 (sym (c.conflict.ensures r here.0 (number-at c.args.lanes.now.seats c.args.place r c.number-number.result is c.number-number.ensures) (state-at c.args.lanes.now.seats c.args.place r c.state-reader.result.now is c.state-reader.ensures.state) here.1) ∙ w.in-Some.is));
+                ∙ sym (filter_map_more-some (conflict_between c.args.next r) c.args.lanes.now.seats c.loop-other.other here.0 w.in-Some.pair here.1 (sym (c.conflict.ensures r here.0 is here.1) ∙ w.in-Some.is));
             few = omega (arith, ap length pushed, length_push c.loop-other.points.items w.in-Some.pair, c.loop-other.invariant.few);
           }
     ]

@@ -1,5 +1,5 @@
 use Rattle.shadow_lanes.specs.Seats.{seat_with, stepped_slot}
-use Rattle.indexed_lanes.proofs.Notes.{still_noted, slot_alike, first_slot, if_some}
+use Rattle.indexed_lanes.proofs.Notes.{still_noted, slot_alike, if_some}
 use Rattle.indexed_lanes.proofs.lanes.IndexedLanes.store.Goals as goal
 
 pub invariant_of-self : goal.invariant_of-self
@@ -8,4 +8,4 @@ invariant_of-self c =
     let same = rw (← c.self.view_is) at c.requires.same in
     rw c.store.ensures
     (if_some _ _ (λ i h. still_noted s i c.args.place (seat_with c.args.slot (stepped_slot c.args.state.now))
-    (λ r at. slot_alike c.args.slot (stepped_slot c.args.state.now) r (λ is. let two = same r.optimistic (first_slot s.seats c.args.place c.args.slot r at is) in (two.reads, two.writes))) h) c.self.inside.index c.self.invariant)
+    (λ r at. slot_alike c.args.slot (stepped_slot c.args.state.now) r (λ is. let two = same r is at in (two.reads, two.writes))) h) c.self.inside.index c.self.invariant)

@@ -8,6 +8,7 @@ use Rattle.forest_model.specs.Point.{Conflict}
 use Rattle.forest_model.specs.Forest.{Started, find_started}
 use Rattle.forest_model.specs.Stays.{GuardRan}
 use Rattle.shadow_lanes.specs.Seats.{Seated, conflicts_of}
+use Rattle.indexed_lanes.proofs.Steps.{runs_of}
 use Rattle.shadow_forest.specs.View.{View}
 use Rattle.shadow_forest.specs.Parts.{nodes_at}
 use Rattle.shadow_forest.specs.Kept.{numbers_waiting, forest_of}
@@ -108,6 +109,7 @@ run_local-requires-clause-runs g c = λ x there.
     let k = known i.journal i.tables i.txns.items i.lanes c.args.place c.args.txn c.args.self.now c.args.guard c.in-Some.slot v c.conflicts.result.now c.conflicts-2.result.now c.state.result.now
     c.conflicts.ensures (sym c.slot_for.ensures ∙ c.in-Some.is) c.conflicts-2.ensures c.state.ensures.state
     in
+    runs_of c.code_of-code.result.now.nodes i.tables x.state
     (may_step i.journal i.tables i.txns.items i.lanes c.args.place c.args.txn c.args.self.now c.args.guard c.in-Some.slot c.conflicts-2.result.now c.state.result.now k x c.code_of-code.result.now.nodes c.self.invariant.0.items
     (c.code_of-code.ensures ∙ ap (λ xs. nodes_at xs c.args.txn) c.deref.ensures.value) there).0
 

@@ -1,10 +1,12 @@
 use Rattle.std.proofs.Common.{◌≤◌, ap, sym, subst, ◌∙◌}
 use Rattle.std.specs.Vec.{vec_capacity}
-use Rattle.shadow_lanes.specs.Seats.{Seated, slots_of}
+use Rattle.shadow_lanes.specs.Seats.{Seat, Seated, slots_of}
+use Rattle.indexed_lanes.specs.Noted.{HasSameLists}
 use Rattle.shadow_forest.specs.Bench.{takes, given_answer, after_give}
 use Rattle.shadow_forest.specs.View.{with_numbers}
 use Rattle.shadow_forest.specs.Kept.{numbers_waiting, forest_of, IsForest}
 use Rattle.shadow_forest.proofs.FirstPlaces.{first-within}
+use Rattle.shadow_forest.proofs.Placing.{some_same}
 use Rattle.shadow_forest.proofs.Stores.{not-started, found-at, none-takes, one-takes, takes-it, is-present}
 use Rattle.shadow_forest.proofs.forest.Forest.store.Goals as goal
 
@@ -38,6 +40,13 @@ returns-in-None-clause-next c =
 
 pub store-requires-clause-slot : goal.store-requires-clause-slot
 store-requires-clause-slot c = λ r there. first-within (takes c.args.job.from c.args.state.now.log.reads) (slots_of r) c.in-Some-slot_out.slot (sym c.in-Some-slot_out.is ∙ c.slot_out.ensures r there)
+
+pub store-requires-clause-same : goal.store-requires-clause-same
+store-requires-clause-same c = λ r is there.
+    let i = c.self.inside in
+    let x = found-at i.journal i.tables i.txns.items (numbers_waiting i.waiting) i.lanes _ _ c.args.self.now c.self.view_is c.self.invariant.0 c.args.job c.args.state.now c.requires.outside c.requires.room c.in-Some.place c.in-Some.ensures.0 c.in-Some.ensures.1 in
+    let y = one-takes i.journal i.tables i.txns.items (numbers_waiting i.waiting) i.lanes _ _ c.args.self.now c.self.view_is c.self.invariant.0 c.args.job c.args.state.now c.requires.outside c.requires.room c.in-Some.place x.0 x.1 c.in-Some-slot_out.slot (sym c.in-Some-slot_out.is ∙ c.slot_out.ensures x.1.seat x.1.there) in
+    subst (λ (q : Seat). HasSameLists q.optimistic.state c.args.state.now) (some_same _ _ (sym x.1.there ∙ there)) (y.lists is)
 
 pub invariant_of-self : goal.invariant_of-self
 invariant_of-self c =
