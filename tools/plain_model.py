@@ -1,5 +1,5 @@
-"""A plain, slow reading of docs/LANGUAGE.md, docs/RULES.md and docs/FORMATS.md: what `scc script` must write for an input, and whether
-what `scc batch` or `scc audit` wrote is right. It keeps no state of a shadow but its position, and runs each program from its
+"""A plain, slow reading of docs/LANGUAGE.md, docs/RULES.md and docs/FORMATS.md: what `scc script` and `scc audit` must write for an
+input, and whether what `scc batch` wrote is right. It keeps no state of a shadow but its position, and runs each program from its
 start wherever it wants to know more."""
 import re
 
@@ -283,7 +283,7 @@ def effect(run, tables):
 
 COMMANDS = {b"table": ("name", "size"), b"put": ("name", "index", "value"), b"begin": ("deadline",), b"step": ("number",),
             b"run": (), b"commit": ("number",), b"withdraw": ("number",), b"show": ("number",), b"dump": ("name",),
-            b"seal": (), b"drain": (), b"journal": ()}
+            b"seal": (), b"drain": (), b"journal": (), b"report": ()}
 BATCH = (b"table", b"put", b"begin")
 RANGES = {"size": (1, 1024), "index": (0, 1023), "value": (LEAST, GREATEST), "deadline": (0, 10 ** 12), "number": (0, 2 ** 32 - 1)}
 
@@ -560,7 +560,7 @@ class Script:
 
     def __init__(self, k, lanes, has_journal=True):
         self.opening, self.k, self.lanes, self.forest = Opening(), k, lanes, None
-        self.commands = [command for command in COMMANDS if has_journal or command != b"journal"]
+        self.commands = [command for command in COMMANDS if command != b"report" and (has_journal or command != b"journal")]
 
     def opened(self):
         if self.forest is None:
@@ -618,43 +618,161 @@ def finals(tables, commits):
 
 # Batches.
 
-def read_batch(lines, commands=BATCH):
-    """The tables and programs of a batch, or the number and the code of its first refused line; and how many lines were read."""
-    opening, programs = Opening(), []
-    for number, line in enumerate(lines, 1):
-        try:
-            found = read_line(line, commands)
-            if found is None:
-                continue
-            command, words = found
-            if command != b"begin":
-                getattr(opening, command.decode())(*words)
-                continue
-            programs.append(read_program(words[1], opening.tables))
+class Input:
+    """The tables and programs of a batch, or what is written where a line is refused; and for an audit what the last line names."""
+
+    def __init__(self, lines, ends=()):
+        opening, self.programs, self.bad, self.end, self.read = Opening(), [], None, None, 0
+        for self.read, line in enumerate(lines, 1):
+            try:
+                self.take(opening, line, ends)
+            except Refused as refusal:
+                self.bad = f"bad {self.read} {str(refusal).split()[0]}"
+            if self.bad or self.end:
+                break
+        if ends and not self.end and not self.bad:
+            self.bad = f"bad {self.read + 1} 13"
+        self.tables = opening.tables
+
+    def take(self, opening, line, ends):
+        found = read_line(line, BATCH + ends)
+        if found is None:
+            return
+        command, words = found
+        if command in ends:
+            self.end = command
+        elif command == b"begin":
+            self.programs.append(read_program(words[1], opening.tables))
             opening.is_open = True
-            if len(programs) > MOST_PROGRAMS:
+            if len(self.programs) > MOST_PROGRAMS:
                 raise Refused("23")
-        except Refused as refusal:
-            return None, f"bad {number} {str(refusal).split()[0]}"
-    return (opening.tables, programs), None
+        else:
+            getattr(opening, command.decode())(*words)
 
 
 def is_report(given, written):
     """Whether this is what a batch may write: one refused line, or the report of its own order with each program once."""
-    read, bad = read_batch(lines_of(given))
-    if bad:
-        return written == f"{bad}\n".encode()
-    tables, programs = read
-    left = set(range(1, len(programs) + 1))
-    wanted = []
-    for line in lines_of(written)[:len(programs)]:
-        named = re.match(rb"commit ([0-9]+) ", line)
-        if not named or int(named.group(1)) not in left:
-            return False
-        number = int(named.group(1))
-        left.remove(number)
-        run = Run(programs[number - 1], tables)
-        tables = effect(run, tables)
-        wanted.append(f"commit {number} {run.outcome}")
-    wanted += finals(tables, len(programs))
-    return not left and written == "".join(line + "\n" for line in wanted).encode()
+    read = Input(lines_of(given))
+    if read.bad:
+        return written == f"{read.bad}\n".encode()
+    return written[-1:] == b"\n" and report_verdict(read, lines_of(written)) == f"yes {len(read.programs)}"
+
+
+def report_verdict(read, lines):
+    """Whether these lines are the report of their own order, or the first of them, behind those before, that none has."""
+    tables, left, last = read.tables, set(range(1, len(read.programs) + 1)), None
+    for place, line in enumerate(lines, read.read + 1):
+        named = re.match(rb"commit ([0-9]{1,10}) ", line)
+        number = int(named.group(1)) if named else 0
+        if number in left:
+            run = Run(read.programs[number - 1], tables)
+            if line != f"commit {number} {run.outcome}".encode():
+                return f"no {place}"
+            left.remove(number)
+            tables = effect(run, tables)
+            continue
+        if last is None:
+            last = finals(tables, len(read.programs))
+        if left or not last or line != last.pop(0).encode():
+            return f"no {place}"
+    if left or last or last is None:
+        return f"no {read.read + len(lines) + 1}"
+    return f"yes {len(read.programs)}"
+
+
+# Audits.
+
+def records_of(text):
+    """The records of a table with commas: fields may stand in quotes, and each line break ends a record, but where nothing is in it."""
+    if text.startswith(b"\xef\xbb\xbf"):
+        text = text[3:]
+    records, fields, field, quoted, begun = [], [], bytearray(), False, False
+    at = 0
+    while at < len(text):
+        sign = text[at:at + 1]
+        at += 1
+        if quoted:
+            if sign != b'"':
+                field += sign
+            elif text[at:at + 1] == b'"':
+                field += sign
+                at += 1
+            else:
+                quoted = False
+        elif sign == b'"' and not field and begun != "field":
+            quoted, begun = True, "field"
+        elif sign == b",":
+            fields.append(bytes(field))
+            field, begun = bytearray(), True
+        elif sign in b"\r\n":
+            if begun:
+                records.append(fields + [bytes(field)])
+            fields, field, begun = [], bytearray(), False
+        else:
+            field += sign
+            begun = "field"
+    if begun:
+        records.append(fields + [bytes(field)])
+    return records
+
+
+class Journal:
+    """A journal that is read, an entry after the other."""
+
+    def __init__(self, tables):
+        self.tables, self.programs, self.live, self.sealed, self.commits = tables, [], set(), False, 0
+
+    def number(self, word):
+        if not re.fullmatch(rb"0|[1-9][0-9]*", word):
+            raise Refused("number")
+        return int(word)
+
+    def take(self, record):
+        """Takes in a record, or refuses it."""
+        if len(record) != 4:
+            raise Refused("fields")
+        entry, txn, deadline, detail = record
+        if entry == b"sealed" and (txn, deadline, detail) == (b"", b"", b"") and not self.sealed:
+            self.sealed = True
+            return
+        number = self.number(txn)
+        if entry == b"began":
+            if self.sealed or number != len(self.programs) + 1 or number > MOST_PROGRAMS or self.number(deadline) > 10 ** 12:
+                raise Refused("began")
+            self.programs.append(read_program(detail, self.tables))
+            self.live.add(number)
+        elif entry == b"committed" and deadline == b"" and number in self.live:
+            run = Run(self.programs[number - 1], self.tables)
+            if run.outcome.encode() != detail:
+                raise Refused("outcome")
+            self.live.remove(number)
+            self.tables, self.commits = effect(run, self.tables), self.commits + 1
+        elif entry == b"withdrawn" and (deadline, detail) == (b"", b"") and number in self.live and not self.sealed:
+            self.live.remove(number)
+        else:
+            raise Refused("entry")
+
+
+def journal_verdict(tables, text):
+    """Whether these bytes are the table of a legal journal, or the first record that none has behind those before."""
+    journal, records = Journal(tables), records_of(text)
+    if not records or records[0] != [b"entry", b"txn", b"deadline", b"detail"]:
+        return "no 1"
+    for number, record in enumerate(records[1:], 2):
+        try:
+            journal.take(record)
+        except Refused:
+            return f"no {number}"
+    return f"yes {journal.commits}"
+
+
+def audit(given):
+    """What `scc audit` writes."""
+    lines = lines_of(given)
+    read = Input(lines, (b"report", b"journal"))
+    if read.bad:
+        return f"{read.bad}\n".encode()
+    if read.end == b"report":
+        return f"{report_verdict(read, lines[read.read:])}\n".encode()
+    rest = given.split(b"\n", read.read)
+    return f"{journal_verdict(read.tables, rest[read.read] if len(rest) > read.read else b'')}\n".encode()
