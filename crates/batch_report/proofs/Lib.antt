@@ -1,4 +1,2 @@
-pub mod Reports
-pub mod Rows
-pub mod Told
 pub mod Once
+pub mod Reports

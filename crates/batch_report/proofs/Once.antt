@@ -8,7 +8,8 @@ use Rattle.journal_core.specs.declared.entry.Entry.TheVariants.{Began, Sealed, C
 use Rattle.journal_core.specs.Journal.{has_begun, has_ended, is_withdrawn, is_sealed, is_seal, is_live, began, commits, IsLegal, IsLegalFrom}
 use Rattle.journal_core.proofs.Legal.{is_sealed-push, counts}
 use Rattle.journal_core.proofs.Begins.{commits-distinct}
-use Rattle.batch_report.specs.Order.{NamesEachOnce, AreCommits}
+use Rattle.report_text.specs.Order.{NamesEachOnce}
+use Rattle.batch_report.specs.Commits.{AreCommits}
 
 -- Behind a seal.
 

@@ -17,7 +17,7 @@ use Rattle.journal_core.proofs.Legal.{replies-serial}
 use Rattle.journal_core.proofs.Begins.{program-named, replies-numbers, replies-outcomes, commit_replies-longer}
 use Rattle.scc_replies.specs.Lines.{end_line}
 use Rattle.scc_replies.specs.Finals.{final_lines}
-use Rattle.batch_report.specs.Report.{numbered, in_order, commit_lines, report}
+use Rattle.report_text.specs.Report.{numbered, in_order, commit_lines, report}
 
 -- a list of pairs is its two sides, joined
 zip-sides : {A B : Type 0} (xs : List (A × B)) → zip (map (λ x. x.0) xs) (map (λ x. x.1) xs) ≡ xs
@@ -30,7 +30,7 @@ map-same f g same [] = refl
 map-same f g same (x ∷ xs) = ap (λ y. y ∷ map f xs) (same x) ∙ ap (λ ys. g x ∷ ys) (map-same f g same xs)
 
 -- the programs of the commits, found by their numbers
-commits-in-order : (journal : List Entry) (programs : List Program) → begins journal ≡ numbered 1 programs → in_order programs (commits journal) ≡ committed_programs journal
+pub commits-in-order : (journal : List Entry) (programs : List Program) → begins journal ≡ numbered 1 programs → in_order programs (commits journal) ≡ committed_programs journal
 commits-in-order journal programs is =
     ap (λ begun. map (program_named begun) (commits journal)) (sym is)
     ∙ map-same (program_named (begins journal)) (program_of journal) (program-named journal) (commits journal)

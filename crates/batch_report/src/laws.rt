@@ -1,18 +1,10 @@
-// Laws of reports and of the journals that they tell. Each function stands for the clause of its contract, and does nothing.
+// Laws of the journals that reports tell. Each function stands for the clause of its contract, and does nothing.
 ghost use Rattle.std.specs.Prelude.{◌≡◌, ◌++◌, ℕ, true, false, List};
 ghost use Rattle.txn_runs.specs.Run.{Tables};
-ghost use Rattle.txn_runs.specs.declared.program.Program.{Program};
-ghost use Rattle.txn_names.specs.Tables.{Named};
 ghost use Rattle.journal_core.specs.declared.entry.Entry.{Entry as EntryOf};
 ghost use Rattle.journal_core.specs.Journal.{began, commits, is_live, is_sealed, is_withdrawn, IsLegal};
-ghost use Rattle.batch_report.specs.Order.{order_of, AreCommits, NamesEachOnce, NamesFit, NumbersFit};
-ghost use Rattle.batch_report.specs.Report.{report};
-
-/// The order of a report is read off its text: the numbers in its `commit` lines are those of the order that it was made for.
-pub fn order_is_told()
-    ensures { (names : List Named) (tables : Tables) (programs : List Program) (order : List ℕ) → NamesFit names → NumbersFit order
-        → order_of (report names tables programs order) ≡ order }
-{}
+ghost use Rattle.report_text.specs.Order.{NamesEachOnce};
+ghost use Rattle.batch_report.specs.Commits.{AreCommits};
 
 /// Behind a journal that is sealed only commits come.
 pub fn sealed_journals()

@@ -6,5 +6,5 @@
 mod laws;
 mod report;
 
-pub use laws::{each_is_committed_once, order_is_told, sealed_journals};
+pub use laws::{each_is_committed_once, sealed_journals};
 pub use report::put_report;

@@ -4,7 +4,7 @@ ghost use Rattle.txn_runs.specs.declared.program.Program.{Program};
 ghost use Rattle.txn_names.specs.Tables.{items_of};
 ghost use Rattle.journal_core.specs.Journal.{commits, tables_after};
 ghost use Rattle.journal_core.specs.Begins.{begins, commit_replies};
-ghost use Rattle.batch_report.specs.Report.{numbered, commit_lines, report};
+ghost use Rattle.report_text.specs.Report.{numbered, commit_lines, report};
 
 use item_table::Table;
 use journal_core::{Entry, Journal, put_reply};

@@ -8,7 +8,7 @@ use Rattle.journal_core.specs.Journal.{began, is_sealed}
 use Rattle.journal_core.proofs.Begins.{begins-count}
 use Rattle.forest_model.specs.Forest.{Forest}
 use Rattle.batch_input.specs.declared.request.Request.{Request}
-use Rattle.batch_report.specs.Report.{numbered}
+use Rattle.report_text.specs.Report.{numbered}
 use Rattle.scc_batch.specs.Opened.{HasBegun, begun_from, programs_of}
 
 pub begun-open : (n : ℕ) (requests : List Request) → is_sealed (begun_from n requests) ≡ false

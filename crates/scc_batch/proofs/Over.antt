@@ -9,8 +9,9 @@ use Rattle.journal_core.proofs.Begins.{begins-count}
 use Rattle.forest_model.specs.Forest.{Forest}
 use Rattle.forest_model.specs.Grown.{IsLonger}
 use Rattle.batch_input.specs.declared.request.Request.{Request}
-use Rattle.batch_report.specs.Order.{AreCommits, NamesEachOnce}
-use Rattle.batch_report.specs.Report.{numbered}
+use Rattle.report_text.specs.Order.{NamesEachOnce}
+use Rattle.batch_report.specs.Commits.{AreCommits}
+use Rattle.report_text.specs.Report.{numbered}
 use Rattle.batch_report.proofs.Once.{legal-behind, sealed-commits, each-once}
 use Rattle.turn_cell.specs.Views.{longer}
 use Rattle.shadow_forest.specs.declared.kept.Item.{Item}

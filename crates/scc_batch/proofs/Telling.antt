@@ -5,53 +5,18 @@ use Rattle.std.specs.Char.{is_ascii_lowercase}
 use Rattle.txn_runs.specs.Run.{Tables}
 use Rattle.txn_names.specs.Word.{is_word_byte, is_word, is_name, is_reserved, is_table_name}
 use Rattle.txn_names.specs.Tables.{Named, IsTable, IsNames}
-use Rattle.batch_report.specs.Order.{order_of, NamesEachOnce, NamesFit, NumbersFit}
-use Rattle.batch_report.specs.Report.{report}
-use Rattle.batch_report.proofs.Told.{order-told}
+use Rattle.report_text.specs.Order.{order_of, NamesEachOnce, NamesFit, NumbersFit}
+use Rattle.report_text.specs.Report.{report}
+use Rattle.report_text.proofs.Fits.{tables-fit, once-fits}
+use Rattle.report_text.proofs.Told.{order-told}
 use Rattle.batch_input.specs.declared.request.Request.{Request}
 use Rattle.scc_batch.specs.Opened.{programs_of}
 use Rattle.scc_batch.specs.Told.{IsReport}
 
--- Names have no newline.
-
-both : (x y : Bool) → (x && y) ≡ true → (x ≡ true) × (y ≡ true)
-both true y h = (refl, h)
-both false y h = absurd (true≢false (sym h))
-
-bytes-fit : (bytes : List ℕ) → list_all is_word_byte bytes ≡ true → AllByRecursion (λ byte. byte ≢ 10) bytes
-bytes-fit [] h = tt
-bytes-fit (b ∷ bytes) h =
-    let two = both (is_word_byte b) (list_all is_word_byte bytes) h in
-    (λ same. true≢false (sym two.0 ∙ ap is_word_byte same), bytes-fit bytes two.1)
-
-word-fits : (bytes : List ℕ) → is_word bytes ≡ true → AllByRecursion (λ byte. byte ≢ 10) bytes
-word-fits [] h = tt
-word-fits (b ∷ bytes) h =
-    let two = both (is_ascii_lowercase b) (list_all is_word_byte bytes) h in
-    (λ same. true≢false (sym two.0 ∙ ap is_ascii_lowercase same), bytes-fit bytes two.1)
-
-name-fits : (name : List ℕ) → is_table_name name ≡ true → AllByRecursion (λ byte. byte ≢ 10) name
-name-fits name h = word-fits name (both (is_word name) (not (is_reserved name)) (both (is_name name) (nat_le (length name) 16) h).0).0
-
-tables-fit : (names : List Named) → All IsTable names → NamesFit names
-tables-fit [] h = tt
-tables-fit (t ∷ names) h = (name-fits t.0 (h 0 t (omega arith)).name, tables-fit names (λ k d le. h (suc k) d (omega (arith, le))))
-
--- Numbers are small.
-
-or-true : (b : Bool) → (b || true) ≡ true
-or-true true = refl
-or-true false = refl
-
-numbers-fit : (order : List ℕ) → ((t : ℕ) → list_any (λ u. u == t) order ≡ true → t < 2 ^ 64) → NumbersFit order
-numbers-fit [] h = tt
-numbers-fit (t ∷ order) h =
-    (h t (ap (λ b. b || list_any (λ u. u == t) order) (eq-eqb t t refl)), numbers-fit order (λ u is. h u (ap (λ b. (t == u) || b) is ∙ or-true (t == u))))
-
 pub report-told : (names : List Named) (tables : Tables) (requests : List Request) (order text : List ℕ) → IsNames names → length requests ≤ 20000 → NamesEachOnce (length requests) order
     → text ≡ report names tables (programs_of requests) order → IsReport names tables requests text
 report-told names tables requests order text plain few once is =
-    let small : NumbersFit order = numbers-fit order (λ t there. let within = (once.each t).0 there in omega (arith, within.1, few)) in
+    let small : NumbersFit order = once-fits (length requests) order (omega (arith, few)) once in
     let same : order_of text ≡ order = ap order_of is ∙ order-told names tables (programs_of requests) order (tables-fit names plain.tables) small in
     record {
       whole = is ∙ ap (report names tables (programs_of requests)) (sym same);

@@ -9,8 +9,8 @@ use Rattle.journal_core.specs.declared.entry.Entry.{Entry}
 use Rattle.journal_core.specs.declared.entry.Entry.TheVariants.{Began}
 use Rattle.forest_model.specs.Forest.{Forest}
 use Rattle.batch_input.specs.declared.request.Request.{Request}
-use Rattle.batch_report.specs.Order.{NamesEachOnce}
-use Rattle.batch_report.specs.Report.{numbered}
+use Rattle.report_text.specs.Order.{NamesEachOnce}
+use Rattle.report_text.specs.Report.{numbered}
 
 -- the program reaches no item beyond so many, and its deadline lies within its limit
 pub record IsWithin (items : ℕ) (request : Request) : Type 0 where

@@ -10,8 +10,8 @@ use Rattle.txn_names.specs.Tables.{Named}
 use Rattle.batch_input.specs.declared.request.Request.{Request}
 use Rattle.batch_input.specs.Input.{Batch, Bad, batch_input}
 use Rattle.batch_input.specs.Unread.{IsReadThrough}
-use Rattle.batch_report.specs.Order.{order_of, NamesEachOnce}
-use Rattle.batch_report.specs.Report.{report}
+use Rattle.report_text.specs.Order.{order_of, NamesEachOnce}
+use Rattle.report_text.specs.Report.{report}
 use Rattle.scc_batch.specs.Opened.{programs_of}
 
 -- A text is the full report of these programs over these tables in the order that its commit lines name, and they name each once.

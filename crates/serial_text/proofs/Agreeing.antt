@@ -15,7 +15,7 @@ use Rattle.scc_setup.specs.Settings.{setting_line}
 use Rattle.scc_script.specs.Ended.{Ended}
 use Rattle.serial_text.specs.Notes.{Notes, no_notes, with_begun, with_commits, commit_of, IsRefused, IsSet, IsUnread, IsDeclined, IsBegun, HasCommitted, HasDrained, IsPassed, IsNotedOf, IsNotedBy, IsNoted, AreNoted, command_in}
 use Rattle.serial_text.specs.Serial.{IsSerialRun, printed_programs}
-use Rattle.serial_text.proofs.Cuts.{head}
+use Rattle.report_text.proofs.Cuts.{head}
 use Rattle.serial_text.proofs.Reading.{drained-same}
 
 abbrev pub numbers : List (ℕ × Outcome) → List ℕ

@@ -5,7 +5,7 @@ use Rattle.std.specs.Fmt.{signed_decimal}
 use Rattle.std.specs.List.{AllByRecursion}
 use Rattle.std.proofs.lemmas.Bool.{eqb-true}
 use Rattle.scc_text.specs.Number.{numbers}
-use Rattle.serial_text.proofs.Cuts.{IsDigit, IsWithout, decimal-digits, decimal-without, head, tail}
+use Rattle.report_text.proofs.Cuts.{IsDigit, IsWithout, decimal-digits, decimal-without, head, tail}
 
 -- The first three bytes.
 

@@ -1,6 +1,5 @@
 pub mod Noting
 pub mod Printing
-pub mod Cuts
 pub mod Reading
 pub mod Agreeing
 pub mod Behind

@@ -16,7 +16,7 @@ use Rattle.scc_script.specs.Ended.{Ended}
 use Rattle.scc_script.specs.Fields.{waiting_line}
 use Rattle.serial_text.specs.Forms.{ShowsShadows, NoSuchTable, DumpsTable}
 use Rattle.serial_text.specs.Notes.{Notes, IsRefused, IsSet, IsUnread, IsDeclined, IsBegun, HasCommitted, IsPassed, IsNotedOf, IsNotedBy, IsNoted, command_in}
-use Rattle.serial_text.proofs.Cuts.{unlines}
+use Rattle.report_text.proofs.Cuts.{unlines}
 use Rattle.serial_text.proofs.Reading.{drain_rows, drain-text}
 use Rattle.serial_text.proofs.Agreeing.{ok-not-err}
 use Rattle.serial_text.proofs.PlainNames.{ArePlain, IsPlain, found-plain, table-plain, put-plain}

@@ -16,8 +16,9 @@ use Rattle.scc_script.specs.Ended.{Ended, ended_text, start_lines}
 use Rattle.scc_script.specs.Fields.{fields, register_field, register_fields, place_name, item_name, item_field, item_fields, emit_fields, waiting_line}
 use Rattle.serial_text.specs.Forms.{shadow_word, place_words, IsStanding, Shown, optimistic_line, guard_lines, ShowsShadows}
 use Rattle.serial_text.specs.Notes.{accepted_line}
-use Rattle.serial_text.proofs.Cuts.{IsWithout, head, tail, decimal-without, signed-without, without-append, lacks, lacking, unlines, AreLines}
-use Rattle.serial_text.proofs.Reading.{row-without, rows, commit_row, resume_row, start_rows, started-text, started-rows, ended-text, ended-rows, drain_rows, all_rows}
+use Rattle.report_text.proofs.Cuts.{IsWithout, head, tail, decimal-without, signed-without, without-append, lacks, lacking, unlines, AreLines}
+use Rattle.report_text.proofs.Words.{row-without}
+use Rattle.serial_text.proofs.Reading.{rows, commit_row, resume_row, start_rows, started-text, started-rows, ended-text, ended-rows, drain_rows, all_rows}
 use Rattle.serial_text.proofs.Behind.{letters, three, third, third-more, third-is, third-other, IsBehind, shown_front, optimistic-third, guard-third, resume-behind, start-behind}
 use Rattle.serial_text.proofs.PlainNames.{ArePlain, IsPlain}
 

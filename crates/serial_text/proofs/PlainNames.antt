@@ -13,7 +13,7 @@ use Rattle.txn_names.specs.Refusal.{add_refusal}
 use Rattle.txn_names.specs.declared.refusal.NameRefusal.{NameRefusal}
 use Rattle.txn_names.specs.declared.refusal.NameRefusal.TheVariants.{Name, Twice, Full}
 use Rattle.scc_setup.specs.Opening.{Opening, text_at, opening_after, table_by, put_by}
-use Rattle.serial_text.proofs.Cuts.{IsWithout}
+use Rattle.report_text.proofs.Cuts.{IsWithout}
 
 abbrev pub IsPlain : List ℕ → Type 0
 IsPlain name = IsWithout 10 name × IsWithout 32 name

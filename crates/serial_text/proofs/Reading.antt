@@ -10,7 +10,8 @@ use Rattle.txn_runs.specs.declared.outcome.FaultKind.TheVariants.{Overflow, Zero
 use Rattle.journal_core.specs.Reply.{commit_line, outcome_words, fault_word}
 use Rattle.scc_replies.specs.Lines.{number_line}
 use Rattle.scc_script.specs.Ended.{Ended, ended_text, all_ended_text, resume_lines, resume_line, start_lines}
-use Rattle.serial_text.proofs.Cuts.{IsWithout, first-piece, decimal-without, decimal-same, unlines, unlines-append, AreLines, lines-same, lines-append, without-append, lacks, lacking, signed-without, numbers-without}
+use Rattle.report_text.proofs.Words.{outcome-without, row-without}
+use Rattle.report_text.proofs.Cuts.{IsWithout, first-piece, decimal-without, decimal-same, unlines, unlines-append, AreLines, lines-same, lines-append, without-append, lacks, lacking, signed-without, numbers-without}
 
 -- The lines of a drain.
 
@@ -83,21 +84,6 @@ drain-text es =
     ∙ sym (unlines-append (all_rows es) ((codes "drain " ++ decimal (length es)) ∷ []))
 
 -- None of them has a newline inside.
-
-fault-without : (kind : FaultKind) → IsWithout 10 (fault_word kind)
-unfolding lacks
-fault-without Overflow = lacking 10 (codes "overflow") refl
-fault-without Zero = lacking 10 (codes "zero") refl
-fault-without Range = lacking 10 (codes "range") refl
-
-pub outcome-without : (o : Outcome) → IsWithout 10 (outcome_words o)
-unfolding lacks
-outcome-without (Done emits) = without-append 10 (codes "done") _ (lacking 10 (codes "done") refl) (numbers-without emits)
-outcome-without (Failed code) = without-append 10 (codes "failed ") _ (lacking 10 (codes "failed ") refl) (signed-without code)
-outcome-without (Fault kind) = without-append 10 (codes "fault ") _ (lacking 10 (codes "fault ") refl) (fault-without kind)
-
-pub row-without : (word : List ℕ) (n : ℕ) → lacks 10 word ≡ true → IsWithout 10 (word ++ decimal n)
-row-without word n plain = without-append 10 word (decimal n) (lacking 10 word plain) (decimal-without 10 n (omega arith))
 
 pub resume-rows : (rs : List (ℕ × ℕ)) → AreLines (map resume_row rs)
 unfolding resume_row lacks

@@ -11,7 +11,7 @@ use Rattle.scc_replies.specs.Finals.{final_lines}
 use Rattle.scc_replies.specs.Lines.{number_line}
 use Rattle.serial_text.specs.Notes.{Notes, no_notes, IsNoted, AreNoted}
 use Rattle.serial_text.specs.Serial.{IsSerialText, IsSerialSoFar, IsSameReading, IsSameSoFar, texts}
-use Rattle.serial_text.proofs.Cuts.{IsWithout, first-piece, unlines, AreLines, lines-append, head, tail, without-append, numbers-without, unlines-append}
+use Rattle.report_text.proofs.Cuts.{IsWithout, first-piece, unlines, AreLines, lines-append, head, tail, without-append, numbers-without, unlines-append}
 use Rattle.serial_text.proofs.Reading.{rows, commit_row, resume_row, start_rows, all_rows, drain_rows, drain-lines}
 use Rattle.serial_text.proofs.Agreeing.{IsAlike, with_those, stay, line-alike, alike-same}
 use Rattle.serial_text.proofs.Behind.{letters, three, third, three-more, IsBehind, row-behind}

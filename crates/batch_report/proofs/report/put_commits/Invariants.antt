@@ -1,6 +1,6 @@
 use Rattle.std.proofs.Common.{◌≡◌, ◌++◌, take}
 use Rattle.journal_core.specs.Begins.{commit_replies}
-use Rattle.batch_report.specs.Report.{commit_lines}
+use Rattle.report_text.specs.Report.{commit_lines}
 use Rattle.batch_report.proofs.report.put_commits.Given as goal
 
 -- the lines of the entries so far

@@ -3,7 +3,7 @@ use Rattle.journal_core.specs.Journal.{commits}
 use Rattle.journal_core.specs.Begins.{commit_replies}
 use Rattle.scc_replies.specs.Lines.{end_line}
 use Rattle.scc_replies.specs.Finals.{final_lines}
-use Rattle.batch_report.specs.Report.{commit_lines}
+use Rattle.report_text.specs.Report.{commit_lines}
 use Rattle.batch_report.proofs.Reports.{report-of}
 use Rattle.batch_report.proofs.report.put_report.Goals as goal
 

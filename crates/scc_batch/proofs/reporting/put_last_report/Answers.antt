@@ -3,7 +3,7 @@ use Rattle.journal_core.specs.Journal.{commits, began}
 use Rattle.journal_core.specs.Begins.{begins}
 use Rattle.journal_core.proofs.Begins.{begins-count}
 use Rattle.txn_syntax.proofs.Opened.{on_map}
-use Rattle.batch_report.specs.Report.{report}
+use Rattle.report_text.specs.Report.{report}
 use Rattle.scc_batch.specs.Opened.{programs_of}
 use Rattle.scc_batch.proofs.Begun.{numbered-many}
 use Rattle.scc_batch.proofs.Telling.{report-told}

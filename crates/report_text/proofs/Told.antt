@@ -15,11 +15,12 @@ use Rattle.journal_core.specs.Numbered.{program_named}
 use Rattle.journal_core.specs.Reply.{outcome_words, commit_line}
 use Rattle.scc_replies.specs.Lines.{end_line, final_line}
 use Rattle.scc_replies.specs.Finals.{final_lines}
-use Rattle.serial_text.proofs.Cuts.{IsWithout, numbers-without, without-append, lacks, lacking, unlines, unlines-append, AreLines, lines-append}
-use Rattle.serial_text.proofs.Reading.{outcome-without, row-without}
-use Rattle.batch_report.specs.Order.{commit_number, order_of, NamesFit, NumbersFit}
-use Rattle.batch_report.specs.Report.{numbered, commit_lines, report}
-use Rattle.batch_report.proofs.Rows.{commit_row, commit-named, final_row, final-named, end-named}
+use Rattle.report_text.proofs.Cuts.{IsWithout, numbers-without, without-append, lacks, lacking, unlines, unlines-append, AreLines, lines-append}
+use Rattle.report_text.proofs.Words.{outcome-without, row-without}
+use Rattle.report_text.specs.Order.{commit_number, order_of, NamesFit, NumbersFit}
+use Rattle.report_text.specs.Report.{numbered, commit_lines, report}
+use Rattle.report_text.specs.Rows.{commit_row, commit_rows, final_rows, end_row, last_rows, report_rows}
+use Rattle.report_text.proofs.Rows.{commit-named, final-named, end-named}
 
 -- Lines.
 
@@ -27,15 +28,11 @@ newline-free : (bs : List ℕ) → IsWithout 10 bs → NoNewline bs
 newline-free [] h = tt
 newline-free (b ∷ bs) h = (h.0, newline-free bs h.1)
 
-lines-back : (ls : List (List ℕ)) → AreLines ls → lines_of (unlines ls) ≡ ls
+pub lines-back : (ls : List (List ℕ)) → AreLines ls → lines_of (unlines ls) ≡ ls
 lines-back [] h = refl
 lines-back (l ∷ ls) h = lines_of-append l (unlines ls) (newline-free l h.0) ∙ ap (λ x. l ∷ x) (lines-back ls h.1)
 
 -- Commits.
-
-abbrev commit_rows : List (ℕ × Outcome) → List (List ℕ)
-commit_rows [] = []
-commit_rows (c ∷ cs) = commit_row c.0 c.1 ∷ commit_rows cs
 
 commits-text : (cs : List (ℕ × Outcome)) → commit_lines cs ≡ unlines (commit_rows cs)
 commits-text [] = refl
@@ -52,7 +49,7 @@ commits-whole [] = tt
 commits-whole (c ∷ cs) = (commit-whole c.0 c.1, commits-whole cs)
 
 -- the commits name the numbers of the order
-commits-named : (tables : Tables) (f : ℕ → Program) (order : List ℕ) (rest : List (List ℕ)) → NumbersFit order
+pub commits-named : (tables : Tables) (f : ℕ → Program) (order : List ℕ) (rest : List (List ℕ)) → NumbersFit order
     → filter_map commit_number (commit_rows (zip order (outcomes tables (map f order))) ++ rest) ≡ order ++ filter_map commit_number rest
 commits-named tables f [] rest h = refl
 commits-named tables f (t ∷ order) rest h =
@@ -61,10 +58,6 @@ commits-named tables f (t ∷ order) rest h =
     ∙ ap (λ x. t ∷ x) (commits-named next f order rest h.1)
 
 -- Last values.
-
-abbrev final_rows : Tables → ℕ → List Named → List (List ℕ)
-final_rows tables base [] = []
-final_rows tables base (t ∷ names) = final_row t.0 (slice_range tables base (base + t.1)) ∷ final_rows tables (base + t.1) names
 
 finals-text : (tables : Tables) (base : ℕ) (names : List Named) → final_lines tables base names ≡ unlines (final_rows tables base names)
 finals-text tables base [] = refl
@@ -90,17 +83,18 @@ finals-named tables base (t ∷ names) rest =
 
 -- The report.
 
-end-whole : (n : ℕ) → IsWithout 10 (codes "end " ++ decimal n)
+end-whole : (n : ℕ) → IsWithout 10 (end_row n)
 unfolding lacks
 end-whole n = row-without (codes "end ") n refl
 
-pub order-told : (names : List Named) (tables : Tables) (programs : List Program) (order : List ℕ) → NamesFit names → NumbersFit order → order_of (report names tables programs order) ≡ order
-unfolding order_of report
-order-told names tables programs order plain small =
+-- it is the text of its lines
+pub report-lines : (names : List Named) (tables : Tables) (programs : List Program) (order : List ℕ) → NamesFit names → lines_of (report names tables programs order) ≡ report_rows names tables programs order
+unfolding report
+report-lines names tables programs order plain =
     let f : ℕ → Program = program_named (numbered 1 programs) in
     let cs : List (ℕ × Outcome) = zip order (outcomes tables (map f order)) in
     let last : Tables = last_tables tables (map f order) in
-    let end : List (List ℕ) = (codes "end " ++ decimal (length order)) ∷ [] in
+    let end : List (List ℕ) = end_row (length order) ∷ [] in
     let rows : List (List ℕ) = commit_rows cs ++ (final_rows last 0 names ++ end) in
     let text : commit_lines cs ++ final_lines last 0 names ++ end_line (length order) ≡ unlines rows =
     append_assoc (commit_lines cs) (final_lines last 0 names) (end_line (length order))
@@ -109,8 +103,19 @@ order-told names tables programs order plain small =
     ∙ ap (λ x. unlines (commit_rows cs) ++ x) (sym (unlines-append (final_rows last 0 names) end))
     ∙ sym (unlines-append (commit_rows cs) (final_rows last 0 names ++ end)) in
     let whole : AreLines rows = lines-append (commit_rows cs) (final_rows last 0 names ++ end) (commits-whole cs) (lines-append (final_rows last 0 names) end (finals-whole last 0 names plain) (end-whole (length order), tt)) in
-    ap (λ x. filter_map commit_number (lines_of x)) text
-    ∙ ap (filter_map commit_number) (lines-back rows whole)
-    ∙ commits-named tables f order (final_rows last 0 names ++ end) small
-    ∙ ap (λ x. order ++ x) (finals-named last 0 names end ∙ ap (λ n. cons_option n []) (end-named (length order)))
-    ∙ append-nil order
+    ap lines_of text ∙ lines-back rows whole
+
+-- the last rows name no commit
+pub last-named : (names : List Named) (tables : Tables) (n : ℕ) → filter_map commit_number (last_rows names tables n) ≡ []
+last-named names tables n = finals-named tables 0 names (end_row n ∷ []) ∙ ap (λ m. cons_option m []) (end-named n)
+
+pub rows-named : (names : List Named) (tables : Tables) (programs : List Program) (order : List ℕ) → NumbersFit order → filter_map commit_number (report_rows names tables programs order) ≡ order
+rows-named names tables programs order small =
+    let f : ℕ → Program = program_named (numbered 1 programs) in
+    let last : List (List ℕ) = last_rows names (last_tables tables (map f order)) (length order) in
+    commits-named tables f order last small ∙ ap (λ x. order ++ x) (last-named names (last_tables tables (map f order)) (length order)) ∙ append-nil order
+
+pub order-told : (names : List Named) (tables : Tables) (programs : List Program) (order : List ℕ) → NamesFit names → NumbersFit order → order_of (report names tables programs order) ≡ order
+unfolding order_of
+order-told names tables programs order plain small =
+    ap (filter_map commit_number) (report-lines names tables programs order plain) ∙ rows-named names tables programs order small

@@ -1,9 +1,7 @@
 -- The order of a report, as it is read off its text.
-use Rattle.std.specs.Prelude.{ℕ, ◌^◌, ◌<◌, ◌≢◌, ◌≡◌, ◌≤◌, ◌↔◌, ◌==◌, Bool, true, false, List, [], ◌∷◌, take, drop, Option, None, if◌then◌else◌, codes, bytes_eq, filter_map}
+use Rattle.std.specs.Prelude.{ℕ, ◌^◌, ◌<◌, ◌≢◌, ◌≡◌, ◌≤◌, ◌↔◌, ◌==◌, true, List, [], ◌∷◌, take, drop, Option, None, if◌then◌else◌, codes, bytes_eq, filter_map}
 use Rattle.std.specs.List.{AllByRecursion, list_any}
 use Rattle.txn_names.specs.Tables.{Named}
-use Rattle.journal_core.specs.declared.entry.Entry.{Entry}
-use Rattle.journal_core.specs.declared.entry.Entry.TheVariants.{Began, Sealed, Committed, Withdrawn}
 use Rattle.journal_core.specs.Numbered.{AreDistinct}
 use Rattle.scc_text.specs.Number.{natural_of}
 use Rattle.scc_text.specs.Lines.{lines_of}
@@ -33,14 +31,3 @@ NumbersFit order = AllByRecursion (λ t. t < 2 ^ 64) order
 pub record NamesEachOnce (count : ℕ) (order : List ℕ) : Type 0 where
   pub distinct : AreDistinct order
   pub each : (t : ℕ) → (list_any (λ u. u == t) order ≡ true) ↔ (1 ≤ t × t ≤ count)
-
--- the entry is a commit
-abbrev pub is_commit : Entry → Bool
-is_commit (Committed txn outcome) = true
-is_commit (Began txn deadline program) = false
-is_commit Sealed = false
-is_commit (Withdrawn txn) = false
-
--- all of these entries are commits
-abbrev pub AreCommits : List Entry → Type 0
-AreCommits entries = AllByRecursion (λ e. is_commit e ≡ true) entries

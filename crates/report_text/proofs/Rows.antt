@@ -1,6 +1,6 @@
 -- The lines of a report, and what each names.
 use Rattle.std.proofs.Common.{◌≡◌, ◌<◌, ◌^◌, ℕ, ◌+◌, ◌*◌, ◌-◌, ◌==◌, ◌&&◌, Bool, true, false, nat_lt, if◌then◌else◌, List, [], ◌∷◌, ◌++◌, length, Some, None, refl, ap, ◌∙◌, append_assoc, arith, eqb-true, lt-ltb, le-ltb, le-leb}
-use Rattle.std.specs.Prelude.{codes, decimal}
+use Rattle.std.specs.Prelude.{decimal}
 use Rattle.std.specs.Char.{digit_value}
 use Rattle.std.specs.Str.Parse.{digits_value_after}
 use Rattle.std.specs.List.{AllByRecursion, list_all}
@@ -8,10 +8,11 @@ use Rattle.std.specs.Char.{is_ascii_digit}
 use Rattle.std.proofs.lemmas.Fmt.{decimal_is_IsNumeral, decimal_nonempty}
 use Rattle.txn_runs.specs.Run.{Tables}
 use Rattle.txn_runs.specs.declared.outcome.Outcome.{Outcome}
-use Rattle.scc_text.specs.Number.{natural_of, is_natural, number_of, number_from, numbers}
+use Rattle.scc_text.specs.Number.{natural_of, is_natural, number_of, number_from}
 use Rattle.journal_core.specs.Reply.{outcome_words}
-use Rattle.serial_text.proofs.Cuts.{IsDigit, IsWithout, decimal-digits, decimal-without}
-use Rattle.batch_report.specs.Order.{first_word, commit_number}
+use Rattle.report_text.proofs.Cuts.{IsDigit, IsWithout, decimal-digits, decimal-without}
+use Rattle.report_text.specs.Order.{first_word, commit_number}
+use Rattle.report_text.specs.Rows.{commit_row, final_row, end_row}
 
 -- Numbers read back.
 
@@ -39,7 +40,7 @@ natural-digits : (ds : List ℕ) → 0 < length ds → AllByRecursion IsDigit ds
 natural-digits [] some h = absurd (omega (arith, some))
 natural-digits (d ∷ ds) some h = all-digits (d ∷ ds) h
 
-natural-decimal : (n : ℕ) → n < 2 ^ 64 → natural_of (decimal n) ≡ Some n
+pub natural-decimal : (n : ℕ) → n < 2 ^ 64 → natural_of (decimal n) ≡ Some n
 unfolding natural_of
 natural-decimal n small =
     let is : is_natural (decimal n) ≡ true = natural-digits (decimal n) (decimal_nonempty n small) (decimal-digits n) in
@@ -56,22 +57,14 @@ first-word (b ∷ word) rest h = go (b == 32) refl (first-word word rest h.1)
     go true is more = absurd (h.0 (eqb-true b 32 is))
     go false is more = ap (λ w. b ∷ w) more
 
--- a commit line without its newline
-abbrev pub commit_row : ℕ → Outcome → List ℕ
-commit_row t o = codes "commit " ++ decimal t ++ codes " " ++ outcome_words o
-
 pub commit-named : (t : ℕ) (o : Outcome) → t < 2 ^ 64 → commit_number (commit_row t o) ≡ Some t
 commit-named t o small =
     let words : List ℕ = outcome_words o in
     let rest : first_word (decimal t ++ 32 ∷ [] ++ words) ≡ decimal t = ap first_word (append_assoc (decimal t) (32 ∷ []) words) ∙ first-word (decimal t) words (decimal-without 32 t (omega arith)) in
     ap natural_of rest ∙ natural-decimal t small
 
--- the row of last values, and that of the number of commits
-abbrev pub final_row : List ℕ → Tables → List ℕ
-final_row name values = codes "final " ++ (name ++ numbers values)
-
 pub final-named : (name : List ℕ) (values : Tables) → commit_number (final_row name values) ≡ None
 final-named name values = refl
 
-pub end-named : (n : ℕ) → commit_number (codes "end " ++ decimal n) ≡ None
+pub end-named : (n : ℕ) → commit_number (end_row n) ≡ None
 end-named n = refl

@@ -1,0 +1,5 @@
+pub mod Cuts
+pub mod Words
+pub mod Rows
+pub mod Told
+pub mod Fits
