@@ -36,12 +36,12 @@ first-refused start now to xs line more number empty went taken is =
     ∙ ap (λ n. Err (record { line = n; code = to.refusal })) count
 
 -- all lines behind those that were answered
-lines-all : (reader : Reader) (left_old left : Option (List ℕ)) (read : List ℕ) (done : List (List ℕ)) (pending : List ℕ)
+pub lines-all : (reader : Reader) (left_old left : Option (List ℕ)) (read : List ℕ) (done : List (List ℕ)) (pending : List ℕ)
     → LinesRead reader left_old left read done pending → lines_of read ≡ done ++ lines_of (pending ++ [])
 lines-all reader left_old left read done pending lines = ap lines_of (sym (append-nil read)) ∙ lines.cut.lines [] (λ _. refl)
 
 -- the newline of the last line that was answered is among the bytes, or they end
-read-through : (ended : Bool) (reader : Reader) (left_old left : Option (List ℕ)) (read : List ℕ) (done : List (List ℕ)) (pending : List ℕ)
+pub read-through : (ended : Bool) (reader : Reader) (left_old left : Option (List ℕ)) (read : List ℕ) (done : List (List ℕ)) (pending : List ℕ)
     → LinesRead reader left_old left read done pending → reader.ended ≡ ended → IsReadThrough read reader.number left
 read-through true reader left_old left read done pending lines is = inr (lines.at_end is)
 read-through false reader left_old left read done pending lines is =

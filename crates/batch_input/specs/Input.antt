@@ -1,16 +1,15 @@
 -- What the lines of a batch make: tables, and programs with their deadlines; or the first line that is refused.
-use Rattle.std.specs.Prelude.{ℕ, ◌+◌, Bool, true, false, nat_lt, if◌then◌else◌, List, [], ◌∷◌, ◌++◌, length, Result, Ok, Err}
+use Rattle.std.specs.Prelude.{ℕ, ◌+◌, Bool, true, false, nat_lt, if◌then◌else◌, List, [], ◌∷◌, ◌++◌, length, map, Result, Ok, Err}
 use Rattle.scc_text.specs.declared.command.Dialect.TheVariants as dialects
 use Rattle.scc_text.specs.declared.command.Command.{Command}
 use Rattle.scc_text.specs.declared.command.Command.TheVariants.{Blank, Table, Put, Begin}
-use Rattle.scc_text.specs.Command.{program_bytes}
+use Rattle.scc_text.specs.Command.{command_of, program_bytes}
 use Rattle.scc_text.specs.Lines.{lines_of}
 use Rattle.txn_runs.specs.declared.program.Program.{Program}
 use Rattle.txn_syntax.specs.declared.refusal.ReadRefusal.{ReadRefusal}
 use Rattle.txn_syntax.specs.declared.refusal.ReadRefusal.TheVariants.{Syntax, UnknownTable, Limit, OutOfMemory}
 use Rattle.txn_syntax.specs.Reads.{read_of}
 use Rattle.scc_setup.specs.Opening.{Opening, no_tables, opening_after}
-use Rattle.scc_setup.specs.Spelled.{spelled}
 use Rattle.batch_input.specs.declared.request.Request.{Request}
 
 -- the tables with their values, and the programs in the order of their lines
@@ -21,6 +20,10 @@ pub record Batch : Type 0 where
 -- before the first line
 abbrev pub no_batch : Batch
 no_batch = record { opening = no_tables; requests = [] }
+
+-- the programs, in the order of their lines
+abbrev pub programs_of : List Request → List Program
+programs_of requests = map (λ (request : Request). request.program) requests
 
 -- no program is there yet
 abbrev pub is_empty : List Request → Bool
@@ -60,7 +63,7 @@ after_command b line (Err code) = Err code
 
 -- what a line makes of the batch before it, or the number of its refusal; 11 is a line that is too long
 unfoldable pub after_line : Batch → List ℕ → Result Batch ℕ
-after_line b line = if nat_lt 8192 (length line) then Err 11 else after_command b line (spelled dialects.Batch line)
+after_line b line = if nat_lt 8192 (length line) then Err 11 else after_command b line (command_of dialects.Batch line)
 
 -- a line by its number that is refused so
 pub record Bad : Type 0 where

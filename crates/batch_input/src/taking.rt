@@ -12,8 +12,8 @@ ghost use Rattle.batch_input.specs.Taking.{IsCodeOf, IsFit, IsReason};
 
 use crate::Request;
 use item_table::Table;
-use scc_setup::{Setup, SetupRefusal, read_line};
-use scc_text::{Command, Dialect, program_text};
+use scc_setup::{Setup, SetupRefusal};
+use scc_text::{Command, Dialect, program_text, read_command};
 use std::alloc::{AllocError, Global};
 use std::marker::Model;
 use txn_names::Names;
@@ -74,13 +74,15 @@ impl BatchInput {
         ensures refused { IfErr result (λ refusal. IsReason refusal (after_line self.old line.now)) }
         ensures kept { OnErr result (self.new ≡ self.old) }
     {
-        match read_line(Dialect::Batch, line) {
+        match read_command(Dialect::Batch, line) {
             Ok(command) => self.accept_command(line, command),
             Err(code) => Err(LineRefusal::Code(code)),
         }
     }
 
-    fn accept_command(&mut self, line: &[u8], command: Command) -> Result<(), LineRefusal>
+    /// Takes in the command that a line of at most 8,192 bytes spells, with the same answers: `Code` is 12 for every command but
+    /// `table`, `put` and `begin`.
+    pub fn accept_command(&mut self, line: &[u8], command: Command) -> Result<(), LineRefusal>
         requires { IsInRange (length line.now) command }
         ensures accepted { OnOk result (after_command self.old line.now (Ok command) ≡ Ok self.new) }
         ensures refused { IfErr result (λ refusal. IsReason refusal (after_command self.old line.now (Ok command))) }

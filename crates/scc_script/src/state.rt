@@ -3,21 +3,24 @@ ghost use Rattle.std.specs.Prelude.{◌≡◌, ◌≤◌, ◌<◌, ◌+◌, ◌+
 ghost use Rattle.txn_runs.specs.Bounds.{reach};
 ghost use Rattle.txn_names.specs.Tables.{items_of};
 ghost use Rattle.txn_syntax.specs.Reads.{read_of};
+ghost use Rattle.txn_spelling.specs.Strangers.{strangers};
 ghost use Rattle.journal_core.specs.Journal.{commits};
 ghost use Rattle.forest_model.specs.Events.{begin as begin_of};
 ghost use Rattle.scc_text.specs.Command.{IsInRange};
 ghost use Rattle.shadow_forest.specs.View.{opened_view};
 ghost use Rattle.scc_setup.specs.Opening.{IsSetting};
 ghost use Rattle.scc_script.specs.Text as spec;
-ghost use Rattle.scc_script.specs.Text.{opening_script, setting_answer, begin_answer, begun_answer, seal_answer, step_answer, run_answer, commit_answer, withdraw_answer, drain_answer, show_answer, dump_answer, command_answer, end_lines};
+ghost use Rattle.scc_script.specs.Text.{opening_script, setting_answer, begin_answer, begun_answer, seal_answer, step_answer, run_answer, commit_answer, withdraw_answer, drain_answer, show_answer, dump_answer, journal_answer, command_answer, end_lines};
 
 use crate::events::{begin_in, commit_in, drain_in, run_in, show_in, step_in, withdraw_in};
 use block_rule::Role;
 use item_table::Table;
+use journal_core::Journal;
+use journal_table::write_journal;
 use line_loop::{Flow, Machine};
 use scc_replies::{put_end, put_finals, put_number_line, put_refusal, put_row, put_unread};
-use scc_setup::{Setup, SetupRefusal, put_setting, read_line};
-use scc_text::{Command, Dialect, program_text};
+use scc_setup::{Setup, SetupRefusal, put_setting};
+use scc_text::{Command, Dialect, program_text, read_command};
 use shadow_forest::Forest;
 use std::alloc::{AllocError, Global};
 use std::marker::Model;
@@ -88,7 +91,7 @@ impl ScriptState {
         ensures ticks { OnOk result (steps.new ≡ steps.old + (spec.answer dialect self.old line.now).ticks) }
         ensures most { (steps.old ≤ steps.new) × (steps.new ≤ steps.old + (spec.answer dialect self.old line.now).ticks) }
     {
-        match read_line(dialect, line) {
+        match read_command(dialect, line) {
             Ok(command) => self.answer_command(line, command, out, steps),
             Err(code) => put_refusal(out, code),
         }
@@ -122,9 +125,8 @@ impl ScriptState {
             Command::Dump { name } => self.dump(&line[name.from..name.to], out),
             Command::Seal => self.seal(out),
             Command::Drain => self.drain(out, steps),
-            Command::Journal | Command::Report | Command::Ask { .. } | Command::Quit => {
-                put_refusal(out, 12)
-            }
+            Command::Journal => self.journal(out),
+            Command::Report | Command::Ask { .. } | Command::Quit => put_refusal(out, 12),
         }
     }
 
@@ -164,6 +166,7 @@ impl ScriptState {
         out: &mut Vec<u8>,
     ) -> Result<(), AllocError>
         requires fits { reach program ≤ items_of self.old.names }
+        requires known { strangers self.old.names program ≡ 0 }
         requires deadline { deadline ≤ 1000000000000 }
         ensures next { OnOk result (self.new ≡ (begun_answer self.old (begin_of self.old.forest program deadline)).next) }
         ensures reply { OnOk result (out.new.items ≡ out.old.items ++ (begun_answer self.old (begin_of self.old.forest program deadline)).reply) }
@@ -274,6 +277,19 @@ impl ScriptState {
             return put_refusal(out, 22);
         };
         put_row(out, name, self.tables().row(table.base, table.size))
+    }
+
+    fn journal(&self, out: &mut Vec<u8>) -> Result<(), AllocError>
+        ensures { OnOk result (out.new.items ≡ out.old.items ++ (journal_answer self.now).reply) }
+    {
+        let names = self.setup.names();
+        match &self.forest {
+            Some(forest) => write_journal(names, forest.journal(), out),
+            None => {
+                let empty = Journal::new(self.alloc, Table::new(self.alloc, 0)?);
+                write_journal(names, &empty, out)
+            }
+        }
     }
 
     // The present tables.

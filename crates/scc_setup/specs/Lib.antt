@@ -1,3 +1,2 @@
 pub mod Opening
 pub mod Settings
-pub mod Spelled

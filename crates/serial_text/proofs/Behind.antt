@@ -1,9 +1,10 @@
 -- The lines that follow a reply's first line. No reply begins with one of them but that to `dump` of a table of such a name.
-use Rattle.std.proofs.Common.{◌≡◌, ◌≢◌, ◌≤◌, ◌<◌, ℕ, suc, ◌==◌, ◌&&◌, ◌||◌, Bool, true, false, if◌then◌else◌, List, [], ◌∷◌, ◌++◌, refl, sym, ap, ◌∙◌, arith, append_assoc, true≢false}
+use Rattle.std.proofs.Common.{◌≡◌, ◌≢◌, ◌≤◌, ◌<◌, ℕ, suc, ◌==◌, ◌&&◌, ◌||◌, Bool, true, false, not, if◌then◌else◌, List, [], ◌∷◌, ◌++◌, refl, sym, ap, ◌∙◌, arith, append_assoc, true≢false}
 use Rattle.std.specs.Prelude.{ℤ, pos, negsuc, codes, decimal}
 use Rattle.std.specs.Fmt.{signed_decimal}
 use Rattle.std.specs.List.{AllByRecursion}
-use Rattle.std.proofs.lemmas.Bool.{eqb-true}
+use Rattle.std.specs.Char.{is_ascii_lowercase}
+use Rattle.std.proofs.lemmas.Bool.{eqb-true, ne_eqb}
 use Rattle.scc_text.specs.Number.{numbers}
 use Rattle.report_text.proofs.Cuts.{IsDigit, IsWithout, decimal-digits, decimal-without, head, tail}
 
@@ -39,6 +40,51 @@ three-more [] z h = absurd (low-letter 0 0 0 (omega arith) h)
 three-more (a ∷ []) z h = absurd (low-letter a 0 0 (omega arith) h)
 three-more (a ∷ b ∷ []) z h = absurd (low-letter a b 0 (omega arith) h)
 three-more (a ∷ b ∷ c ∷ r) z h = h
+
+-- The rows of a journal.
+
+-- the first byte that is no lower-case letter
+unfoldable pub past_word : List ℕ → ℕ
+past_word [] = 0
+past_word (b ∷ bs) = if is_ascii_lowercase b then past_word bs else b
+
+-- the text begins with a word and a comma, and not with an `e`, as the heading does
+unfoldable pub row_start : List ℕ → Bool
+row_start bs = not (head bs == 101) && (past_word bs == 44)
+
+past-line : (line z : List ℕ) → (past_word (line ++ 10 ∷ z) == 44) ≡ (past_word line == 44)
+unfolding past_word
+past-line [] z = refl
+past-line (b ∷ line) z = go (is_ascii_lowercase b) (past-line line z)
+  where
+    go : (letter : Bool) → (past_word (line ++ 10 ∷ z) == 44) ≡ (past_word line == 44) → ((if letter then past_word (line ++ 10 ∷ z) else b) == 44) ≡ ((if letter then past_word line else b) == 44)
+    go true more = more
+    go false more = refl
+
+-- a text begins with a row where its first line does
+pub line-apart : (line z : List ℕ) → row_start line ≡ false → row_start (line ++ 10 ∷ z) ≡ false
+unfolding row_start past_word head
+line-apart [] z h = refl
+line-apart (b ∷ line) z h = ap (λ x. not (b == 101) && x) (past-line (b ∷ line) z) ∙ h
+
+past-name : (name : List ℕ) (vs : List ℤ) → IsWithout 44 name → (past_word (name ++ numbers vs) == 44) ≡ false
+unfolding past_word
+past-name [] [] h = refl
+past-name [] (v ∷ vs) h = refl
+past-name (b ∷ name) vs h = go (is_ascii_lowercase b) (past-name name vs h.1)
+  where
+    go : (letter : Bool) → (past_word (name ++ numbers vs) == 44) ≡ false → ((if letter then past_word (name ++ numbers vs) else b) == 44) ≡ false
+    go true more = more
+    go false more = ne_eqb b 44 h.0
+
+and-false : (x : Bool) → (x && false) ≡ false
+and-false true = refl
+and-false false = refl
+
+-- no line of `dump` begins so
+pub name-apart : (name : List ℕ) (vs : List ℤ) → IsWithout 44 name → row_start (name ++ numbers vs) ≡ false
+unfolding row_start
+name-apart name vs h = ap (λ x. not (head (name ++ numbers vs) == 101) && x) (past-name name vs h) ∙ and-false (not (head (name ++ numbers vs) == 101))
 
 -- The byte behind the second blank.
 

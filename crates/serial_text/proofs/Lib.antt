@@ -4,6 +4,7 @@ pub mod Reading
 pub mod Agreeing
 pub mod Behind
 pub mod PlainNames
+pub mod Journals
 pub mod Pieces
 pub mod Pairs
 pub mod Splits

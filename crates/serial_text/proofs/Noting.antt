@@ -6,7 +6,7 @@ use Rattle.std.specs.Result.{IfOk}
 use Rattle.scc_text.specs.declared.command.Dialect.TheVariants as dialects
 use Rattle.scc_text.specs.declared.command.Command.{Command}
 use Rattle.scc_text.specs.declared.command.Command.TheVariants.{Blank, Table, Put, Begin, Step, Run, Commit, Withdraw, Show, Dump, Seal, Drain, Journal, Report, Ask, Quit}
-use Rattle.scc_text.specs.Command.{program_bytes}
+use Rattle.scc_text.specs.Command.{command_of, program_bytes}
 use Rattle.scc_text.specs.declared.words.Span.{Span}
 use Rattle.txn_runs.specs.Run.{Tables, Running, after}
 use Rattle.txn_runs.specs.Serial.{last_tables}
@@ -48,7 +48,6 @@ use Rattle.scc_setup.specs.Opening.{Opening, text_at, opening_after}
 use Rattle.scc_replies.specs.Lines.{number_line, refuse_line}
 use Rattle.scc_setup.specs.Settings.{setting_line}
 use Rattle.scc_script.specs.Ended.{Ended, all_ended_text}
-use Rattle.scc_setup.specs.Spelled.{spelled}
 use Rattle.scc_script.specs.Reply.{begin_line, standing_at, step_line}
 use Rattle.scc_script.specs.Shown.{standing_word, run_fields, look_line, shadow_lines}
 use Rattle.scc_script.specs.Drained.{drained, entry_in, IsToldDrain}
@@ -339,7 +338,7 @@ command-noted s line (Show txn) h = show-noted s line txn (life_of s.forest txn)
 command-noted s line (Dump name) h = dump-noted s line name (table_named s.names (text_at line name)) refl
 command-noted s line Seal h = record { form = refl; noted = seal-noted s.names s.forest }
 command-noted s line Drain h = drain-noted s.names s.forest h.sound
-command-noted s line Journal h = refused-noted (notes_of s) 12
+command-noted s line Journal h = record { entries = s.forest.journal; told = refl; legal = h.sound.right.legal; programs = refl; replies = refl; noted = refl }
 command-noted s line Report h = refused-noted (notes_of s) 12
 command-noted s line (Ask txn) h = refused-noted (notes_of s) 12
 command-noted s line Quit h = refused-noted (notes_of s) 12
@@ -352,7 +351,7 @@ pub answer-noted : (s : Script) (line : List ℕ) → IsGood s → IsNoted (note
 unfolding answer IsNoted
 answer-noted s line h = go (nat_lt 8192 (length line))
   where
-    go : (long : Bool) → let a = if long then refused s 11 else answer_to s line (spelled dialects.Script line) in
-        IsNotedBy (notes_of s) line (if long then Err 11 else spelled dialects.Script line) a.reply (notes_of a.next)
+    go : (long : Bool) → let a = if long then refused s 11 else answer_to s line (command_of dialects.Script line) in
+        IsNotedBy (notes_of s) line (if long then Err 11 else command_of dialects.Script line) a.reply (notes_of a.next)
     go true = (refl, refl)
-    go false = spelled-noted s line (spelled dialects.Script line) h
+    go false = spelled-noted s line (command_of dialects.Script line) h

@@ -5,10 +5,12 @@ use Rattle.scc_text.specs.declared.command.Command.TheVariants.{Blank, Table, Pu
 use Rattle.scc_text.specs.Command.{program_bytes}
 use Rattle.scc_text.specs.declared.words.Span.{Span}
 use Rattle.txn_runs.specs.declared.program.TableRef.{TableRef}
-use Rattle.txn_names.specs.Tables.{table_named}
+use Rattle.txn_names.specs.Tables.{Named, table_named}
 use Rattle.txn_syntax.specs.declared.refusal.ReadRefusal.{ReadRefusal}
 use Rattle.txn_syntax.specs.declared.refusal.ReadRefusal.TheVariants.{Syntax, UnknownTable, Limit, OutOfMemory}
 use Rattle.txn_syntax.specs.Reads.{read_of}
+use Rattle.journal_core.specs.declared.entry.Entry.{Entry}
+use Rattle.journal_table.specs.Rows.{journal_text}
 use Rattle.scc_setup.specs.Opening.{Opening, text_at}
 use Rattle.scc_replies.specs.Lines.{row_line}
 use Rattle.scc_replies.specs.Unread.{unread_line}
@@ -56,8 +58,16 @@ pub record AreDrains (a b : List ℕ) : Type 0 where
   pub one : a ≡ unlines (drain_rows these)
   pub other : b ≡ unlines (drain_rows those)
 
+-- both are tables of journals
+pub record AreJournals (a b : List ℕ) : Type 0 where
+  pub names : List Named
+  pub these : List Entry
+  pub those : List Entry
+  pub one : a ≡ journal_text names these
+  pub other : b ≡ journal_text names those
+
 abbrev pub IsPair : Notes → Notes → List ℕ → List ℕ → Type 0
-IsPair u v a b = AreNone u v a b ⊎ (AreRows u v a b ⊎ (AreSingle a b ⊎ (ArePieces u v a b ⊎ AreDrains a b)))
+IsPair u v a b = AreNone u v a b ⊎ (AreRows u v a b ⊎ (AreSingle a b ⊎ (ArePieces u v a b ⊎ (AreDrains a b ⊎ AreJournals a b))))
 
 -- One reader.
 
@@ -219,8 +229,14 @@ module _ (n m : Notes) (e : m.opening.names ≡ n.opening.names) (h : ArePlain n
       pieces (show-one n u h line a txn x) (show-one m v too line b txn y) (kept (passed-kept n u h line a (Show txn) x) (passed-kept m v too line b (Show txn) y))
   command-pair (Dump name) x y = dump-pair (text_at line name) x.form y.form (kept-stay x.noted y.noted)
   command-pair Seal x y = single (subst IsLine (sym x.form) seal-line) (subst IsLine (sym y.form) seal-line)
-  command-pair Drain x y = inr (inr (inr (inr (record { these = x.ended; those = y.ended; one = x.told ∙ drain-text x.ended; other = y.told ∙ drain-text y.ended }))))
-  command-pair Journal x y = refused-pair x y
+  command-pair Drain x y = inr (inr (inr (inr (inl (record { these = x.ended; those = y.ended; one = x.told ∙ drain-text x.ended; other = y.told ∙ drain-text y.ended })))))
+  command-pair Journal x y = inr (inr (inr (inr (inr (record {
+    names = n.opening.names;
+    these = x.entries;
+    those = y.entries;
+    one = x.told;
+    other = y.told ∙ ap (λ z. journal_text z y.entries) e;
+  })))))
   command-pair Report x y = refused-pair x y
   command-pair (Ask txn) x y = refused-pair x y
   command-pair Quit x y = refused-pair x y

@@ -19,7 +19,7 @@ use Rattle.serial_text.specs.Notes.{accepted_line}
 use Rattle.report_text.proofs.Cuts.{IsWithout, head, tail, decimal-without, signed-without, without-append, lacks, lacking, unlines, AreLines}
 use Rattle.report_text.proofs.Words.{row-without}
 use Rattle.serial_text.proofs.Reading.{rows, commit_row, resume_row, start_rows, started-text, started-rows, ended-text, ended-rows, drain_rows, all_rows}
-use Rattle.serial_text.proofs.Behind.{letters, three, third, third-more, third-is, third-other, IsBehind, shown_front, optimistic-third, guard-third, resume-behind, start-behind}
+use Rattle.serial_text.proofs.Behind.{letters, three, row_start, past_word, third, third-more, third-is, third-other, IsBehind, shown_front, optimistic-third, guard-third, resume-behind, start-behind}
 use Rattle.serial_text.proofs.PlainNames.{ArePlain, IsPlain}
 
 -- one line, that stands behind no other reply's first line
@@ -28,6 +28,7 @@ pub record IsLine (reply : List ℕ) : Type 0 where
   pub told : reply ≡ line ++ 10 ∷ []
   pub whole : IsWithout 10 line
   pub start : three line ≡ false
+  pub apart : row_start line ≡ false
 
 -- such a line, or one of `show`, and the lines behind it
 pub record IsPiece (reply : List ℕ) : Type 0 where
@@ -36,39 +37,41 @@ pub record IsPiece (reply : List ℕ) : Type 0 where
   pub told : reply ≡ unlines (line ∷ behind)
   pub whole : AreLines (line ∷ behind)
   pub start : (three line ≡ false) ⊎ (third line ≡ 111)
+  pub apart : row_start line ≡ false
   pub others : AllByRecursion IsBehind behind
 
 pub piece-of : (reply : List ℕ) → IsLine reply → IsPiece reply
-piece-of reply h = record { line = h.line; behind = []; told = h.told; whole = (h.whole, tt); start = inl h.start; others = tt }
+piece-of reply h = record { line = h.line; behind = []; told = h.told; whole = (h.whole, tt); start = inl h.start; apart = h.apart; others = tt }
 
 -- One line.
 
-word-line : (word : List ℕ) (n : ℕ) → lacks 10 word ≡ true → three (word ++ decimal n) ≡ false → IsLine (number_line word n)
-word-line word n plain start = record { line = word ++ decimal n; told = refl; whole = row-without word n plain; start = start }
+word-line : (word : List ℕ) (n : ℕ) → lacks 10 word ≡ true → three (word ++ decimal n) ≡ false → row_start (word ++ decimal n) ≡ false → IsLine (number_line word n)
+word-line word n plain start apart = record { line = word ++ decimal n; told = refl; whole = row-without word n plain; start = start; apart = apart }
 
 pub refuse-line : (code : ℕ) → IsLine (refuse_line code)
-unfolding lacks three letters head tail
-refuse-line code = word-line (codes "refuse ") code refl refl
+unfolding lacks three letters head tail row_start past_word
+refuse-line code = word-line (codes "refuse ") code refl refl refl
 
 pub run-line : (steps : ℕ) → IsLine (number_line (codes "run ") steps)
-unfolding lacks three letters head tail
-run-line steps = word-line (codes "run ") steps refl refl
+unfolding lacks three letters head tail row_start past_word
+run-line steps = word-line (codes "run ") steps refl refl refl
 
 pub seal-line : IsLine (codes "seal\n")
-unfolding lacks three letters head tail
-seal-line = record { line = codes "seal"; told = refl; whole = lacking 10 (codes "seal") refl; start = refl }
+unfolding lacks three letters head tail row_start past_word
+seal-line = record { line = codes "seal"; told = refl; whole = lacking 10 (codes "seal") refl; start = refl; apart = refl }
 
 pub set-line : (name : List ℕ) (size : ℕ) → IsPlain name → IsLine (table_line name size)
-unfolding lacks three letters head tail
+unfolding lacks three letters head tail row_start past_word
 set-line name size h = record {
   line = codes "table " ++ name ++ (codes " " ++ decimal size);
   told = sym (append_assoc (codes "table " ++ name) (codes " " ++ decimal size) (10 ∷ []));
   whole = without-append 10 (codes "table " ++ name) (codes " " ++ decimal size) (without-append 10 (codes "table ") name (lacking 10 (codes "table ") refl) h.0) (row-without (codes " ") size refl);
   start = refl;
+  apart = refl;
 }
 
 pub put-line : (name : List ℕ) (index : ℕ) (value : ℤ) → IsPlain name → IsLine (put_line name index value)
-unfolding lacks three letters head tail
+unfolding lacks three letters head tail row_start past_word
 put-line name index value h = record {
   line = codes "put " ++ name ++ codes " " ++ decimal index ++ codes " " ++ signed_decimal value;
   told = refl;
@@ -81,30 +84,34 @@ put-line name index value h = record {
       (lacking 10 (codes " ") refl))
       (signed-without value);
   start = refl;
+  apart = refl;
 }
 
 pub begun-line : (txn : ℕ) (started : Bool) → IsLine (accepted_line txn started)
-unfolding lacks three letters head tail
+unfolding lacks three letters head tail row_start past_word
 begun-line txn true = record {
   line = codes "begin " ++ decimal txn ++ codes " started";
   told = sym (append_assoc (codes "begin " ++ decimal txn) (codes " started") (10 ∷ []));
   whole = without-append 10 (codes "begin " ++ decimal txn) (codes " started") (row-without (codes "begin ") txn refl) (lacking 10 (codes " started") refl);
   start = refl;
+  apart = refl;
 }
 begun-line txn false = record {
   line = codes "begin " ++ decimal txn ++ codes " waiting";
   told = sym (append_assoc (codes "begin " ++ decimal txn) (codes " waiting") (10 ∷ []));
   whole = without-append 10 (codes "begin " ++ decimal txn) (codes " waiting") (row-without (codes "begin ") txn refl) (lacking 10 (codes " waiting") refl);
   start = refl;
+  apart = refl;
 }
 
 pub unread-at-line : (code at : ℕ) → IsLine (refuse_at_line code at)
-unfolding lacks three letters head tail
+unfolding lacks three letters head tail row_start past_word
 unread-at-line code at = record {
   line = codes "refuse " ++ decimal code ++ (codes " " ++ decimal at);
   told = sym (append_assoc (codes "refuse " ++ decimal code) (codes " " ++ decimal at) (10 ∷ []));
   whole = without-append 10 (codes "refuse " ++ decimal code) (codes " " ++ decimal at) (row-without (codes "refuse ") code refl) (row-without (codes " ") at refl);
   start = refl;
+  apart = refl;
 }
 
 limit-without : (w : Which) → IsWithout 10 (limit_word w)
@@ -117,12 +124,13 @@ limit-without which.Steps = lacking 10 (codes "steps") refl
 limit-without which.Emits = lacking 10 (codes "emits") refl
 
 pub unread-limit-line : (w : Which) → IsLine (refuse_limit_line w)
-unfolding lacks three letters head tail
+unfolding lacks three letters head tail row_start past_word
 unread-limit-line w = record {
   line = codes "refuse 15 " ++ limit_word w;
   told = refl;
   whole = without-append 10 (codes "refuse 15 ") (limit_word w) (lacking 10 (codes "refuse 15 ") refl) (limit-without w);
   start = refl;
+  apart = refl;
 }
 
 shadow-without : (guard : Option ℕ) → IsWithout 10 (shadow_word guard)
@@ -141,12 +149,13 @@ place-without word txn guard position plain =
     (decimal-without 10 position (omega arith))
 
 pub step-line : (txn : ℕ) (guard : Option ℕ) (position : ℕ) → IsLine (place_words (codes "step ") txn guard position ++ 10 ∷ [])
-unfolding lacks three letters head tail
+unfolding lacks three letters head tail row_start past_word
 step-line txn guard position = record {
   line = place_words (codes "step ") txn guard position;
   told = refl;
   whole = place-without (codes "step ") txn guard position refl;
   start = refl;
+  apart = refl;
 }
 
 -- Commit and withdraw.
@@ -166,24 +175,26 @@ starts-behind None = tt
 starts-behind (Some t) = (start-behind t, tt)
 
 pub commit-piece : (e : Ended) → IsPiece (ended_text e)
-unfolding rows commit_row three letters head tail
+unfolding rows commit_row three letters head tail row_start past_word
 commit-piece e = record {
   line = commit_row e;
   behind = map resume_row e.resumed ++ start_rows e.starts;
   told = ended-text e;
   whole = ended-rows e;
   start = inl refl;
+  apart = refl;
   others = behind-append (map resume_row e.resumed) (start_rows e.starts) (resumes-behind e.resumed) (starts-behind e.starts);
 }
 
 pub withdraw-piece : (txn : ℕ) (starts : Option ℕ) → IsPiece (number_line (codes "withdraw ") txn ++ start_lines starts)
-unfolding lacks three letters head tail
+unfolding lacks three letters head tail row_start past_word
 withdraw-piece txn starts = record {
   line = codes "withdraw " ++ decimal txn;
   behind = start_rows starts;
   told = append_assoc (codes "withdraw " ++ decimal txn) (10 ∷ []) (start_lines starts) ∙ ap (λ x. codes "withdraw " ++ decimal txn ++ 10 ∷ x) (started-text starts);
   whole = (row-without (codes "withdraw ") txn refl, started-rows starts);
   start = inl refl;
+  apart = refl;
   others = starts-behind starts;
 }
 
@@ -305,12 +316,14 @@ module _ (names : List Named) (h : ArePlain names) (txn : ℕ) where
   guards-behind (g ∷ gs) = (guard-is-behind g, guards-behind gs)
 
   shadows-piece : (x : Shown) (gs : List (ℕ × (ℕ × Shown))) → IsPiece (optimistic_line names txn x ++ guard_lines names txn gs)
+  unfolding row_start past_word head
   shadows-piece x gs = record {
     line = optimistic_row names txn x;
     behind = map (guard_row names txn) gs;
     told = append_assoc (optimistic_row names txn x) (10 ∷ []) (guard_lines names txn gs) ∙ ap (λ y. optimistic_row names txn x ++ 10 ∷ y) (guards-text gs);
     whole = (optimistic-without x, guards-lines gs);
     start = inr (optimistic-start x);
+    apart = refl;
     others = guards-behind gs;
   }
 
@@ -318,13 +331,14 @@ module _ (names : List Named) (h : ArePlain names) (txn : ℕ) where
   show-piece reply s = rw s.told (shadows-piece s.first s.others)
 
 pub waiting-piece : (txn : ℕ) → IsPiece (waiting_line txn)
-unfolding lacks three letters head tail
+unfolding lacks three letters head tail row_start past_word
 waiting-piece txn = record {
   line = codes "show " ++ decimal txn ++ codes " waiting";
   behind = [];
   told = sym (append_assoc (codes "show " ++ decimal txn) (codes " waiting") (10 ∷ []));
   whole = (without-append 10 (codes "show " ++ decimal txn) (codes " waiting") (row-without (codes "show ") txn refl) (lacking 10 (codes " waiting") refl), tt);
   start = inl refl;
+  apart = refl;
   others = tt;
 }
 
@@ -336,13 +350,15 @@ pub record Opens (lines : List (List ℕ)) : Type 0 where
   pub more : List (List ℕ)
   pub is : lines ≡ line ∷ more
   pub start : three line ≡ false
+  pub apart : row_start line ≡ false
 
 pub drain-opens : (es : List Ended) → Opens (drain_rows es)
-unfolding drain_rows all_rows rows commit_row three letters head tail
-drain-opens [] = record { line = codes "drain " ++ decimal 0; more = []; is = refl; start = refl }
+unfolding drain_rows all_rows rows commit_row three letters head tail row_start past_word
+drain-opens [] = record { line = codes "drain " ++ decimal 0; more = []; is = refl; start = refl; apart = refl }
 drain-opens (e ∷ es) = record {
   line = commit_row e;
   more = map resume_row e.resumed ++ start_rows e.starts ++ all_rows es ++ (codes "drain " ++ decimal (length (e ∷ es))) ∷ [];
   is = refl;
   start = refl;
+  apart = refl;
 }

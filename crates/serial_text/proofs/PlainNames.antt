@@ -1,4 +1,4 @@
--- The tables that a reader notes have names without blanks and newlines.
+-- The tables that a reader notes have names without blanks, newlines and commas.
 use Rattle.std.proofs.Common.{◌≡◌, ℕ, ◌+◌, ◌&&◌, ◌||◌, ◌==◌, Bool, true, false, not, nat_lt, nat_le, if◌then◌else◌, length, List, [], ◌∷◌, ◌++◌, Option, Some, None, Result, Ok, Err, is_some, bytes_eq, refl, sym, ap, ◌∙◌, subst, true≢false}
 use Rattle.std.specs.Prelude.{ℤ, pos, replicate, slice_set}
 use Rattle.std.specs.List.{AllByRecursion, list_all}
@@ -16,7 +16,7 @@ use Rattle.scc_setup.specs.Opening.{Opening, text_at, opening_after, table_by, p
 use Rattle.report_text.proofs.Cuts.{IsWithout}
 
 abbrev pub IsPlain : List ℕ → Type 0
-IsPlain name = IsWithout 10 name × IsWithout 32 name
+IsPlain name = IsWithout 10 name × IsWithout 32 name × IsWithout 44 name
 
 abbrev pub ArePlain : List Named → Type 0
 ArePlain names = AllByRecursion (λ (t : Named). IsPlain t.0) names
@@ -40,7 +40,7 @@ name-without s first apart (b ∷ bs) h =
 name-plain : (name : List ℕ) → is_table_name name ≡ true → IsPlain name
 name-plain name h =
     let word = (both (is_word name) (not (is_reserved name)) (both (is_name name) (nat_le (length name) 16) h).0).0 in
-    (name-without 10 refl refl name word, name-without 32 refl refl name word)
+    (name-without 10 refl refl name word, name-without 32 refl refl name word, name-without 44 refl refl name word)
 
 added-plain : (names : List Named) (name : List ℕ) (size : ℕ) → add_refusal names name size ≡ None → IsPlain name
 added-plain names name size e = go (is_table_name name) refl e

@@ -6,7 +6,7 @@ use Rattle.std.specs.Result.{IfOk}
 use Rattle.scc_text.specs.declared.command.Dialect.TheVariants as dialects
 use Rattle.scc_text.specs.declared.command.Command.{Command}
 use Rattle.scc_text.specs.declared.command.Command.TheVariants.{Blank, Table, Put, Begin, Step, Run, Commit, Withdraw, Show, Dump, Seal, Drain, Journal, Report, Ask, Quit}
-use Rattle.scc_text.specs.Command.{program_bytes}
+use Rattle.scc_text.specs.Command.{command_of, program_bytes}
 use Rattle.scc_text.specs.Lines.{lines_of, whole_lines, within_limit}
 use Rattle.line_loop.specs.Meaning.{machine_after, replies_from, script_text, whole_text, Wrote, WrotePart}
 use Rattle.line_loop.specs.declared.ending.Ending.{Ending}
@@ -32,7 +32,6 @@ use Rattle.scc_replies.specs.Lines.{number_line}
 use Rattle.scc_replies.specs.Finals.{final_lines}
 use Rattle.scc_script.specs.Drained.{drained}
 use Rattle.scc_setup.specs.Settings.{setting_line}
-use Rattle.scc_setup.specs.Spelled.{spelled}
 use Rattle.scc_script.specs.Text.{Script, refused, set_by, opening_of, begin_answer, command_answer, answer_to, answer, role_of, meaning, opening_script, end_lines}
 use Rattle.scc_script.proofs.Sound.{answer-keeps}
 use Rattle.scc_script.specs.Drained.{entry_in, IsToldDrain}
@@ -104,9 +103,9 @@ answer-closed : (s : Script) (line : List ℕ) → IsGood s → IsClosed (answer
 unfolding answer
 answer-closed s line h = go (nat_lt 8192 (length line))
   where
-    go : (long : Bool) → IsClosed (if long then refused s 11 else answer_to s line (spelled dialects.Script line)).next
+    go : (long : Bool) → IsClosed (if long then refused s 11 else answer_to s line (command_of dialects.Script line)).next
     go true = h.closed
-    go false = spelled-closed s line (spelled dialects.Script line) h
+    go false = spelled-closed s line (command_of dialects.Script line) h
 
 answer-good : (s : Script) (line : List ℕ) → IsGood s → IsGood (answer dialects.Script s line).next
 answer-good s line h = record { sound = answer-keeps dialects.Script s line h.sound; closed = answer-closed s line h }

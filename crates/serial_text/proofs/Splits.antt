@@ -14,10 +14,11 @@ use Rattle.serial_text.specs.Serial.{IsSerialText, IsSerialSoFar, IsSameReading,
 use Rattle.report_text.proofs.Cuts.{IsWithout, first-piece, unlines, AreLines, lines-append, head, tail, without-append, numbers-without, unlines-append}
 use Rattle.serial_text.proofs.Reading.{rows, commit_row, resume_row, start_rows, all_rows, drain_rows, drain-lines}
 use Rattle.serial_text.proofs.Agreeing.{IsAlike, with_those, stay, line-alike, alike-same}
-use Rattle.serial_text.proofs.Behind.{letters, three, third, three-more, IsBehind, row-behind}
+use Rattle.serial_text.proofs.Behind.{letters, three, third, three-more, row_start, past_word, line-apart, name-apart, IsBehind, row-behind}
+use Rattle.serial_text.proofs.Journals.{heading_line, heading-first, heading-whole, heading-start, heading-apart, entry_rows, entries-same}
 use Rattle.serial_text.proofs.PlainNames.{ArePlain}
 use Rattle.serial_text.proofs.Pieces.{IsLine, drain-opens}
-use Rattle.serial_text.proofs.Pairs.{AreRows, ArePieces, IsPair, line-pair, line-plain}
+use Rattle.serial_text.proofs.Pairs.{AreRows, ArePieces, AreJournals, IsPair, line-pair, line-plain}
 
 -- Ahead.
 
@@ -98,7 +99,9 @@ late-line a b x y u v (inr (inr (inl p))) late more =
     not-late p.one.line [] x (b ++ y) p.one.whole (inl p.one.start) (subst (λ z. IsLate (z ++ x) (b ++ y)) p.one.told late)
 late-line a b x y u v (inr (inr (inr (inl p)))) late more =
     not-late p.one.line (unlines p.one.behind) x (b ++ y) p.one.whole.0 p.one.start (subst (λ z. IsLate (z ++ x) (b ++ y)) p.one.told late)
-late-line a b x y u v (inr (inr (inr (inr p)))) late more =
+late-line a b x y u v (inr (inr (inr (inr (inr p))))) late more =
+    not-late heading_line (entry_rows p.names p.these) x (b ++ y) heading-whole (inl heading-start) (subst (λ z. IsLate (z ++ x) (b ++ y)) (p.one ∙ heading-first p.names p.these) late)
+late-line a b x y u v (inr (inr (inr (inr (inl p))))) late more =
     let o = drain-opens p.these in
     let lines : AreLines (o.line ∷ o.more) = subst AreLines o.is (drain-lines p.these) in
     not-late o.line (unlines o.more) x (b ++ y) lines.0 (inl o.start) (subst (λ z. IsLate (z ++ x) (b ++ y)) (p.one ∙ ap unlines o.is) late)
@@ -191,6 +194,40 @@ rows-same a b x y u v r e =
     in
     (r.one ∙ ap (λ z. z ++ 10 ∷ []) two.0 ∙ sym r.other, two.1)
 
+journals-same : (a b x y : List ℕ) → AreJournals a b → row_start x ≡ false → row_start y ≡ false → a ++ x ≡ b ++ y → (a ≡ b) × (x ≡ y)
+journals-same a b x y p hx hy e =
+    let one = p.one ∙ heading-first p.names p.these in
+    let other = p.other ∙ heading-first p.names p.those in
+    let two =
+    first-line heading_line heading_line (entry_rows p.names p.these) (entry_rows p.names p.those) x y heading-whole heading-whole
+    (ap (λ z. z ++ x) (sym one) ∙ e ∙ ap (λ z. z ++ y) other)
+    in
+    let rows = entries-same p.names p.these p.those x y hx hy two.1 in
+    (one ∙ ap (λ z. heading_line ++ 10 ∷ z) rows.0 ∙ sym other, rows.1)
+
+-- No text begins with a row of a journal.
+
+reply-apart : (a z : List ℕ) (u v : Notes) (b : List ℕ) → IsPair u v a b → row_start z ≡ false → row_start (a ++ z) ≡ false
+reply-apart a z u v b (inl p) h = ap (λ r. row_start (r ++ z)) p.one ∙ h
+reply-apart a z u v b (inr (inl p)) h =
+    ap (λ r. row_start (r ++ z)) p.one ∙ ap row_start (row-assoc (p.name ++ numbers p.these) [] z) ∙ line-apart (p.name ++ numbers p.these) z (name-apart p.name p.these p.plain.2)
+reply-apart a z u v b (inr (inr (inl p))) h = ap (λ r. row_start (r ++ z)) p.one.told ∙ ap row_start (row-assoc p.one.line [] z) ∙ line-apart p.one.line z p.one.apart
+reply-apart a z u v b (inr (inr (inr (inl p)))) h =
+    ap (λ r. row_start (r ++ z)) p.one.told ∙ ap row_start (row-assoc p.one.line (unlines p.one.behind) z) ∙ line-apart p.one.line (unlines p.one.behind ++ z) p.one.apart
+reply-apart a z u v b (inr (inr (inr (inr (inl p))))) h =
+    let o = drain-opens p.these in
+    ap (λ r. row_start (r ++ z)) (p.one ∙ ap unlines o.is) ∙ ap row_start (row-assoc o.line (unlines o.more) z) ∙ line-apart o.line (unlines o.more ++ z) o.apart
+reply-apart a z u v b (inr (inr (inr (inr (inr p))))) h =
+    ap (λ r. row_start (r ++ z)) (p.one ∙ heading-first p.names p.these)
+    ∙ ap row_start (row-assoc heading_line (entry_rows p.names p.these) z)
+    ∙ line-apart heading_line (entry_rows p.names p.these ++ z) heading-apart
+
+texts-apart : (these : List (List ℕ × List ℕ)) (n n1 : Notes) (x : List ℕ) → ArePlain n.opening.names → AreNoted n these n1 → row_start x ≡ false → row_start (texts these ++ x) ≡ false
+texts-apart [] n n1 x h p start = start
+texts-apart (a ∷ these) n n1 x h p start =
+    ap row_start (append_assoc a.1 (texts these) x)
+    ∙ reply-apart a.1 (texts these ++ x) p.0 p.0 a.1 (line-pair n n refl h a.0 a.1 a.1 p.0 p.0 p.1 p.1) (texts-apart these p.0 n1 x (line-plain n p.0 h a.0 a.1 p.1) p.2 start)
+
 -- both have read the same reply, or one of them is late and both know the same names
 abbrev IsMet : Notes → Notes → List ℕ → List ℕ → List ℕ → List ℕ → Type 0
 IsMet u v a b x y = ((a ≡ b) × (x ≡ y)) ⊎ ((v.opening.names ≡ u.opening.names) × (IsLate y x ⊎ IsLate x y))
@@ -207,16 +244,21 @@ pieces-met a b x y u v p e =
     go same (inl m) = inl (p.one.told ∙ ap (λ z. z ++ 10 ∷ unlines p.one.behind) same ∙ ap (λ z. p.other.line ++ 10 ∷ z) m.0 ∙ sym p.other.told, m.1)
     go same (inr m) = inr (p.kept, m)
 
-line-met : (a b x y : List ℕ) (u v : Notes) → IsPair u v a b → a ++ x ≡ b ++ y → IsMet u v a b x y
-line-met a b x y u v (inl p) e = inl (p.one ∙ sym p.other, ap (λ z. z ++ x) (sym p.one) ∙ e ∙ ap (λ z. z ++ y) p.other)
-line-met a b x y u v (inr (inl p)) e = inl (rows-same a b x y u v p e)
-line-met a b x y u v (inr (inr (inl p))) e = inl (line-same a b x y p.one p.other e)
-line-met a b x y u v (inr (inr (inr (inl p)))) e = pieces-met a b x y u v p e
-line-met a b x y u v (inr (inr (inr (inr p)))) e =
+line-met : (a b x y : List ℕ) (u v : Notes) → IsPair u v a b → row_start x ≡ false → row_start y ≡ false → a ++ x ≡ b ++ y → IsMet u v a b x y
+line-met a b x y u v (inl p) hx hy e = inl (p.one ∙ sym p.other, ap (λ z. z ++ x) (sym p.one) ∙ e ∙ ap (λ z. z ++ y) p.other)
+line-met a b x y u v (inr (inl p)) hx hy e = inl (rows-same a b x y u v p e)
+line-met a b x y u v (inr (inr (inl p))) hx hy e = inl (line-same a b x y p.one p.other e)
+line-met a b x y u v (inr (inr (inr (inl p)))) hx hy e = pieces-met a b x y u v p e
+line-met a b x y u v (inr (inr (inr (inr (inr p))))) hx hy e = inl (journals-same a b x y p hx hy e)
+line-met a b x y u v (inr (inr (inr (inr (inl p))))) hx hy e =
     let two = drains-same p.these p.those x y (ap (λ z. z ++ x) (sym p.one) ∙ e ∙ ap (λ z. z ++ y) p.other) in
     inl (p.one ∙ two.0 ∙ sym p.other, two.1)
 
 -- All lines.
+
+-- the last lines begin with none that stands behind a reply's first line
+abbrev IsLast : List ℕ → Type 0
+IsLast x = (three x ≡ false) × (row_start x ≡ false)
 
 record AreSame (these those : List (List ℕ × List ℕ)) (n1 m1 : Notes) (x y : List ℕ) : Type 0 where
   alike : IsAlike n1 m1
@@ -227,7 +269,7 @@ pair-same : (a b : List ℕ × List ℕ) → a.0 ≡ b.0 → a.1 ≡ b.1 → a �
 pair-same a b e d = ap (λ z. (z, a.1)) e ∙ ap (λ z. (b.0, z)) d
 
 texts-same : (these those : List (List ℕ × List ℕ)) (n m n1 m1 : Notes) (x y : List ℕ) → lines_in these ≡ lines_in those → IsAlike n m → ArePlain n.opening.names
-    → AreNoted n these n1 → AreNoted m those m1 → three x ≡ false → three y ≡ false → texts these ++ x ≡ texts those ++ y → AreSame these those n1 m1 x y
+    → AreNoted n these n1 → AreNoted m those m1 → IsLast x → IsLast y → texts these ++ x ≡ texts those ++ y → AreSame these those n1 m1 x y
 texts-same [] [] n m n1 m1 x y same k h p q sx sy e = record { alike = stay n k.commits k.same n1 m1 p (q ∙ k.rest); answers = refl; last = e }
 texts-same [] (b ∷ those) n m n1 m1 x y same k h p q sx sy e = absurd (cc)
 texts-same (a ∷ these) [] n m n1 m1 x y same k h p q sx sy e = absurd (cc)
@@ -239,10 +281,11 @@ texts-same (a ∷ these) (b ∷ those) n m n1 m1 x y same k h p q sx sy e =
     let names : m.opening.names ≡ n.opening.names = ap (λ (z : Notes). z.opening.names) k.rest in
     let plain : ArePlain p.0.opening.names = line-plain n p.0 h a.0 a.1 p.1 in
     go line
-    (line-met a.1 b.1 (texts these ++ x) (texts those ++ y) p.0 q.0 (line-pair n m names h a.0 a.1 b.1 p.0 q.0 p.1 there) (sym (append_assoc a.1 (texts these) x) ∙ e ∙ append_assoc b.1 (texts those) y))
+    (line-met a.1 b.1 (texts these ++ x) (texts those ++ y) p.0 q.0 (line-pair n m names h a.0 a.1 b.1 p.0 q.0 p.1 there) (texts-apart these p.0 n1 x plain p.2 sx.1)
+    (texts-apart those q.0 m1 y (line-plain m q.0 (subst ArePlain (sym names) h) b.0 b.1 q.1) q.2 sy.1) (sym (append_assoc a.1 (texts these) x) ∙ e ∙ append_assoc b.1 (texts those) y))
     (λ reply text. texts-same these those p.0 q.0 n1 m1 x y rest (line-alike n k.commits k.same a.0 a.1 p.0 q.0 p.1 (subst (λ z. IsNoted (with_those n k.commits) a.0 z q.0) (sym reply) here)) plain p.2 q.2 sx sy text)
-    (λ kept late. never-late those these q.0 p.0 m1 n1 y x (sym rest) (sym kept) (subst ArePlain (sym kept) plain) q.2 p.2 sy late)
-    (λ kept late. never-late these those p.0 q.0 n1 m1 x y rest kept plain p.2 q.2 sx late)
+    (λ kept late. never-late those these q.0 p.0 m1 n1 y x (sym rest) (sym kept) (subst ArePlain (sym kept) plain) q.2 p.2 sy.0 late)
+    (λ kept late. never-late these those p.0 q.0 n1 m1 x y rest kept plain p.2 q.2 sx.0 late)
   where
     go : a.0 ≡ b.0 → IsMet p.0 q.0 a.1 b.1 (texts these ++ x) (texts those ++ y) → (a.1 ≡ b.1 → texts these ++ x ≡ texts those ++ y → AreSame these those n1 m1 x y)
         → (q.0.opening.names ≡ p.0.opening.names → IsLate (texts those ++ y) (texts these ++ x) → ⊥)
@@ -253,10 +296,10 @@ texts-same (a ∷ these) (b ∷ those) n m n1 m1 x y same k h p q sx sy e =
     go line (inr (kept, inl late)) more one other = absurd (one kept late)
     go line (inr (kept, inr late)) more one other = absurd (other kept late)
 
-finals-start : (names : List Named) (tables : List ℤ) (base commits : ℕ) → three (final_lines tables base names ++ number_line (codes "end ") commits) ≡ false
-unfolding three letters head tail
-finals-start [] tables base commits = refl
-finals-start (t ∷ names) tables base commits = refl
+finals-start : (names : List Named) (tables : List ℤ) (base commits : ℕ) → IsLast (final_lines tables base names ++ number_line (codes "end ") commits)
+unfolding three letters head tail row_start past_word
+finals-start [] tables base commits = (refl, refl)
+finals-start (t ∷ names) tables base commits = (refl, refl)
 
 -- a whole text of these lines is read in one way alone
 pub text-same : (lines : List (List ℕ)) (printed : List ℕ) (one other : IsSerialText lines printed) → IsSameReading lines printed one other
@@ -267,15 +310,15 @@ text-same lines printed one other =
     in
     record { answers = same.answers; last = same.last; notes = alike-same one.notes other.notes same.alike one.serial.run other.serial.run }
   where
-    starts : (t : IsSerialText lines printed) → three t.last ≡ false
-    starts t = ap three t.serial.finals ∙ finals-start t.notes.opening.names _ 0 _
+    starts : (t : IsSerialText lines printed) → IsLast t.last
+    starts t = subst IsLast (sym t.serial.finals) (finals-start t.notes.opening.names _ 0 _)
 
 -- and so are the replies to the lines so far
 pub so-far-same : (lines : List (List ℕ)) (printed : List ℕ) (one other : IsSerialSoFar lines printed) → IsSameSoFar lines printed one other
-unfolding three letters head tail
+unfolding three letters head tail row_start past_word
 so-far-same lines printed one other =
     let same : AreSame one.answers other.answers one.notes other.notes [] [] =
     texts-same one.answers other.answers no_notes no_notes one.notes other.notes [] [] (one.each ∙ sym other.each) (record { commits = []; rest = refl; same = refl }) tt one.noted other.noted
-    refl refl (append-nil (texts one.answers) ∙ sym one.whole ∙ other.whole ∙ sym (append-nil (texts other.answers)))
+    (refl, refl) (refl, refl) (append-nil (texts one.answers) ∙ sym one.whole ∙ other.whole ∙ sym (append-nil (texts other.answers)))
     in
     record { answers = same.answers; notes = alike-same one.notes other.notes same.alike one.serial other.serial }

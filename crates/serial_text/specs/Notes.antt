@@ -1,22 +1,25 @@
--- What a reader notes who sees the lines of a script and the reply to each. He knows the commands, how programs are spelled, and
--- what a serial run is.
+-- What a reader notes who sees the lines of a script and the reply to each. He knows the commands, how programs are spelled, what a
+-- serial run is, and what a legal journal is and how its table is written.
 use Rattle.std.specs.Prelude.{◌≡◌, ◌⊎◌, ◌≤◌, ℕ, ◌+◌, Bool, true, nat_lt, if◌then◌else◌, List, [], ◌∷◌, ◌++◌, length, map, Result, Ok, Err, codes, decimal}
 use Rattle.std.specs.List.{AllByRecursion}
 use Rattle.scc_text.specs.declared.command.Dialect.TheVariants as dialects
 use Rattle.scc_text.specs.declared.command.Command.{Command}
-use Rattle.scc_text.specs.declared.command.Command.TheVariants.{Blank, Table, Put, Begin, Step, Run, Commit, Withdraw, Show, Dump, Seal, Drain}
-use Rattle.scc_text.specs.Command.{program_bytes}
+use Rattle.scc_text.specs.declared.command.Command.TheVariants.{Blank, Table, Put, Begin, Step, Run, Commit, Withdraw, Show, Dump, Seal, Drain, Journal}
+use Rattle.scc_text.specs.Command.{command_of, program_bytes}
 use Rattle.txn_runs.specs.declared.program.Program.{Program}
 use Rattle.txn_runs.specs.declared.outcome.Outcome.{Outcome}
 use Rattle.txn_syntax.specs.declared.refusal.ReadRefusal.{ReadRefusal}
 use Rattle.txn_syntax.specs.Reads.{read_of}
 use Rattle.journal_core.specs.Numbered.{is_named}
+use Rattle.journal_core.specs.Journal.{IsLegal}
+use Rattle.journal_core.specs.Begins.{begins, commit_replies}
+use Rattle.journal_core.specs.declared.entry.Entry.{Entry}
+use Rattle.journal_table.specs.Rows.{journal_text}
 use Rattle.scc_setup.specs.Opening.{Opening, no_tables, opening_after}
 use Rattle.scc_replies.specs.Lines.{number_line, refuse_line}
 use Rattle.scc_setup.specs.Settings.{setting_line}
 use Rattle.scc_replies.specs.Unread.{unread_line}
 use Rattle.scc_script.specs.Ended.{Ended, ended_text, all_ended_text}
-use Rattle.scc_setup.specs.Spelled.{spelled}
 use Rattle.serial_text.specs.Forms.{IsForm}
 
 -- The tables' names and the values that were put, the programs that began, by their numbers, and the printed commits in order, each
@@ -102,6 +105,16 @@ pub record HasDrained (before : Notes) (reply : List ℕ) (after : Notes) : Type
   pub told : reply ≡ all_ended_text ended ++ number_line (codes "drain ") (length ended)
   pub noted : after ≡ with_commits before (map commit_of ended)
 
+-- A `journal` line: the table of a legal journal over the values that were put, in which the noted programs began and which has the
+-- noted commits.
+pub record TellsJournal (before : Notes) (reply : List ℕ) (after : Notes) : Type 0 where
+  pub entries : List Entry
+  pub told : reply ≡ journal_text before.opening.names entries
+  pub legal : IsLegal before.opening.tables entries
+  pub programs : begins entries ≡ before.begun
+  pub replies : commit_replies entries ≡ before.commits
+  pub noted : after ≡ before
+
 -- nothing is noted
 pub record IsPassed (before : Notes) (line : List ℕ) (command : Command) (reply : List ℕ) (after : Notes) : Type 0 where
   pub form : IsForm before.opening.names line command reply
@@ -122,6 +135,7 @@ IsNotedOf before line (Show txn) reply after = IsRefused before reply after ⊎ 
 IsNotedOf before line (Dump name) reply after = IsPassed before line (Dump name) reply after
 IsNotedOf before line Seal reply after = IsPassed before line Seal reply after
 IsNotedOf before line Drain reply after = HasDrained before reply after
+IsNotedOf before line Journal reply after = TellsJournal before reply after
 IsNotedOf before line other reply after = IsRefused before reply after
 
 -- the same for a line that spells this command, or is refused
@@ -131,7 +145,7 @@ IsNotedBy before line (Err code) reply after = (reply ≡ refuse_line code) × (
 
 -- the command of a line of a script, or its refusal
 abbrev pub command_in : List ℕ → Result Command ℕ
-command_in line = if nat_lt 8192 (length line) then Err 11 else spelled dialects.Script line
+command_in line = if nat_lt 8192 (length line) then Err 11 else command_of dialects.Script line
 
 -- what is noted of a line and its reply
 unfoldable pub IsNoted : Notes → List ℕ → List ℕ → Notes → Type 0
