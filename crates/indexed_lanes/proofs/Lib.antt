@@ -3,3 +3,10 @@ pub mod Notes
 pub mod Adding
 pub mod Changes
 pub mod Steps
+pub mod Marks
+pub mod Settled
+pub mod Renewed
+pub mod Shifts
+pub mod Keeping
+pub mod Reading
+pub mod Passing

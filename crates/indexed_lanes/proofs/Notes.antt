@@ -1,6 +1,6 @@
 -- What is noted at the places of transactions.
-use Rattle.std.specs.Prelude.{◌≡◌, ◌<◌, ◌-◌, ℕ, zero, suc, List, [], ◌∷◌, ◌++◌, length, map, replicate, slice_get, slice_set, slice_index_or, Option, None, Some, option_map, IfSome}
-use Rattle.std.proofs.Common.{refl, sym, ap, ap₂, subst, arith, ◌∙◌, length-set, length-append}
+use Rattle.std.specs.Prelude.{◌≡◌, ◌<◌, ◌-◌, ℕ, zero, suc, List, [], ◌∷◌, ◌++◌, length, map, replicate, slice_get, slice_set, slice_index_or, Option, None, Some, option_map}
+use Rattle.std.proofs.Common.{refl, sym, ap, ap₂, arith, ◌∙◌, length-set, length-append}
 use Rattle.std.proofs.lemmas.List.{length-map}
 use Rattle.std.proofs.lemmas.Option.{same_Some}
 use Rattle.txn_interp.specs.State.{Held}
@@ -72,11 +72,6 @@ all_noted s index f e h = record {
     alike [] = refl
     alike (x ∷ seats) = rw (e x) (ap (λ ls. noted_of x ∷ ls) (alike seats))
 
--- where there is an index
-pub if_some : {A : Type 0} (P Q : A → Type 0) → ((x : A) → P x → Q x) → (o : Option A) → IfSome o P → IfSome o Q
-if_some P Q go None h = h
-if_some P Q go (Some x) h = go x h
-
 -- A slot changed.
 
 -- a change of a slot leaves what is noted, where it leaves what the optimistic one has read and written
@@ -91,10 +86,6 @@ first_slot seats place slot r at is = ap (slot_at seats place) is ∙ rw at refl
 
 pub first_there : (seats : List Seat) (place slot : ℕ) (r : Seat) (s : Slot) → slice_get seats place ≡ Some r → slot ≡ 0 → slot_at seats place slot ≡ Some s → s ≡ r.optimistic
 first_there seats place slot r s at is here = let both : Some s ≡ Some r.optimistic = sym here ∙ first_slot seats place slot r at is in same_Some s r.optimistic both
-
--- the one that there is
-pub some_noted : (s : Seated) (o : Option Index) (index : Index) → o ≡ Some index → IfSome o (IsNoted s) → IsNoted s index
-some_noted s o index is h = subst (λ x. IfSome x (IsNoted s)) is h
 
 -- the slot whose state is known
 pub slot_there : (o : Option Slot) (state : Held) → option_map (λ (s : Slot). s.state) o ≡ Some state → (s : Slot) × (o ≡ Some s) × (s.state ≡ state)

@@ -8,7 +8,7 @@ use Rattle.shadow_state.proofs.Places.{all_get}
 use Rattle.shadow_lanes.specs.Kept.{AreAll, one_if, times}
 use Rattle.shadow_lanes.proofs.Lists.{get_map, all_insert, map_insert, all_remove, map_remove}
 use Rattle.shadow_lanes.proofs.Order.{times_insert, times_remove}
-use Rattle.conflict_index.specs.Index.{Lane, Index, forgotten, lane_at, lanes_with}
+use Rattle.conflict_index.specs.Index.{Lane, Index, forgotten, lane_at, is_marked, lanes_with}
 use Rattle.indexed_lanes.specs.Placed.{in_places, moved, put_at}
 
 -- a number that is there is there at least once
@@ -123,3 +123,11 @@ opened index items lanes room order is h =
     ap (λ (i : Index). in_places i order) is
     ∙ ap₂ (λ (ls : List Lane) (ms : List Bool). record { items = items; lanes = ls; marks = ms })
     (map_always forgotten lanes order ∙ ap (λ n. replicate n forgotten) h.many) (map_always false lanes order ∙ ap (λ n. replicate n false) h.many)
+
+-- what is seen where no lane is marked any more
+pub settled_places : (index new view : Index) (order : List ℕ) → in_places index order ≡ view → new ≡ record index { marks = replicate (length index.lanes) false } → in_places new order ≡ record view { marks = replicate (length view.marks) false }
+settled_places index new view order is e =
+    ap (λ (i : Index). in_places i order) e
+    ∙ ap (λ (ms : List Bool). record { items = index.items; lanes = map (lane_at index) order; marks = ms })
+    (map_always false (length index.lanes) order ∙ ap (λ n. replicate n false) (sym (length-map order (is_marked index))))
+    ∙ ap (λ (v : Index). record v { marks = replicate (length v.marks) false }) is

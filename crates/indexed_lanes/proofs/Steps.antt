@@ -54,7 +54,7 @@ follows (x ∷ rs) position item before none =
 
 -- A step of a state.
 
-held_reads : (nodes : List Node) (p : Program) (d : Tables) (s : Held) → RunsOver nodes p d s → reads p d s.position ≡ s.log.reads
+pub held_reads : (nodes : List Node) (p : Program) (d : Tables) (s : Held) → RunsOver nodes p d s → reads p d s.position ≡ s.log.reads
 held_reads nodes p d s h = ap (λ r. r.reads) h.is.is
 
 held_writes : (nodes : List Node) (p : Program) (d : Tables) (s : Held) → RunsOver nodes p d s → writes p d s.position ≡ s.writes

@@ -1,6 +1,6 @@
 -- An index of conflicts whose lanes stand in an order.
-use Rattle.std.specs.Prelude.{ℕ, List, map, insert, remove, slice_get, Option, None, Some}
-use Rattle.conflict_index.specs.Index.{Index, lane_at, is_marked}
+use Rattle.std.specs.Prelude.{ℕ, ◌≡◌, ◌≢◌, ◌<◌, false, List, length, map, insert, remove, slice_get, Option, None, Some}
+use Rattle.conflict_index.specs.Index.{Index, lane_at, is_marked, point_at}
 
 -- the index with its lanes in this order
 abbrev pub in_places : Index → List ℕ → Index
@@ -14,3 +14,8 @@ put_at (Some x) to xs = insert xs to x
 -- what stands at one place stands at another
 abbrev pub moved : {A : Type 0} → ℕ → ℕ → List A → List A
 moved from to xs = put_at (slice_get xs from) to (remove xs from)
+
+-- a lane that isn't marked after a change wasn't before it, and has the points that it had
+abbrev pub AreUnmoved : Index → Index → Type 0
+AreUnmoved old new = (place : ℕ) → place < length old.lanes → is_marked new place ≡ false
+    → (is_marked old place ≡ false) × ((writer : ℕ) → writer < length old.lanes → writer ≢ place → point_at new place writer ≡ point_at old place writer)

@@ -1,12 +1,16 @@
-ghost use Rattle.std.specs.Prelude.{◌≡◌, ◌≢◌, ◌<◌, ◌≤◌, ◌+◌, suc, [], None, Some, false, length, map, slice_get, option_map, IfOk, MatchOption};
+ghost use Rattle.std.specs.Prelude.{◌≡◌, ◌≢◌, ◌<◌, ◌≤◌, ◌+◌, [], None, Some, false, length, map, slice_get, option_map, IfOk, MatchOption};
+ghost use Rattle.txn_runs.specs.declared.kind.Kind.TheVariants.{TableRead};
+ghost use Rattle.txn_interp.specs.Kind.{HasKind};
 ghost use Rattle.txn_interp.specs.State.{Held, Carries, Runs};
 ghost use Rattle.forest_model.specs.Point.{point as point_of};
 ghost use Rattle.shadow_state.specs.Bank.{Slot, at_place, marked_slot};
-ghost use Rattle.shadow_lanes.specs.Seats.{Seat, AreSeats, find_seat, seats_with, seats_without, slots_of, slot_at, conflicts_of, stepped_slot, seat_with, recalled_seat, settled_seat, promoted_seat, StepsOver, RunsLocal};
+ghost use Rattle.shadow_lanes.specs.Seats.{Seat, AreSeats, find_seat, seats_with, seats_without, slots_of, slot_at, conflicts_of, stepped_slot, seat_with, recalled_seat, promoted_seat, StepsOver, RunsLocal};
 ghost use Rattle.indexed_lanes.specs.Noted.{RunsHere, HasSameLists};
+ghost use Rattle.indexed_lanes.specs.Wanted.{wanted_among, renewed, AreWanted};
 
 use crate::noting::{note_anew, note_step};
 use crate::placed::PlacedIndex;
+use crate::wanting::{have, wanted_at};
 use conflict_table::point;
 use item_table::Table;
 use shadow_lanes::Lanes;
@@ -18,7 +22,8 @@ use txn_code::Code;
 use txn_interp::State;
 
 /// The started transactions in rising order of their numbers, each with the states of its shadows, and an index of what each has read
-/// and written at its optimistic position. All memory is taken at opening.
+/// and written at its optimistic position. The index marks whose points move: by the type who isn't marked has the shadows that it
+/// wants. All memory is taken at opening.
 #[derive(Drop)]
 pub struct IndexedLanes {
     lanes: Lanes,
@@ -27,15 +32,14 @@ pub struct IndexedLanes {
 }
 
 impl Model for IndexedLanes {
-    ghost use Rattle.std.specs.Prelude.{IfSome};
     ghost use Rattle.shadow_lanes.specs.Seats.{Seated};
-    ghost use Rattle.indexed_lanes.specs.Noted.{IsNoted};
+    ghost use Rattle.indexed_lanes.specs.Wanted.{IsIndexed};
 
     ghost Value = { Seated };
 
     ghost view = { λ l. l.lanes };
 
-    ghost invariant = { λ l. IfSome l.index (IsNoted l.lanes) };
+    ghost invariant = { λ l. IsIndexed l.lanes l.index };
 }
 
 impl IndexedLanes {
@@ -193,15 +197,49 @@ impl IndexedLanes {
         self.lanes.remove(number);
     }
 
-    /// The transaction at a place has exactly the shadows for these guards and points, out of those that it has: one for the
-    /// same guard that is not past its point stays, and any other is a copy of the furthest that is not past the point, or fresh.
-    pub fn settle(&mut self, place: u32, conflicts: &[(u32, u32)], code: &Code)
-        requires place { place < length self.old.seats }
-        requires few { suc (length conflicts.now) ≤ self.old.most }
-        requires carries { Carries code.now.nodes self.old.items }
-        ensures { self.new ≡ record self.old { seats = at_place place (settled_seat code.now.nodes self.old.items conflicts.now) self.old.seats } }
+    /// Whether the transaction at a place may want other shadows than it has.
+    pub fn changed(&self, place: u32) -> bool
+        requires { place < length self.now.seats }
+        ensures { result ≡ false → (r : Seat) → slice_get self.now.seats place ≡ Some r → conflicts_of r ≡ wanted_among self.now.most None self.now.seats r }
     {
-        self.lanes.settle(place, conflicts, code);
+        match &self.index {
+            Some(index) => index.changed(place),
+            None => {
+                // the limits come with the number of the started
+                let _ = self.lanes.len();
+                false
+            }
+        }
+    }
+
+    /// Where each transaction has the shadows that it wants, none may want others any more.
+    pub fn settled(&mut self)
+        requires { AreWanted self.old }
+        ensures { self.new ≡ self.old }
+    {
+        if let Some(index) = &mut self.index {
+            index.settled();
+        }
+    }
+
+    /// The transaction at a place has exactly the shadows that it wants, out of those that it has: one for the same guard that is not
+    /// past its point stays, and any other is a copy of the furthest that is not past the point, or fresh.
+    pub fn renew(&mut self, place: u32, code: &Code)
+        requires place { place < length self.old.seats }
+        requires carries { Carries code.now.nodes self.old.items }
+        ensures { (r : Seat) → slice_get self.old.seats place ≡ Some r
+            → self.new ≡ record self.old { seats = at_place place (renewed code.now.nodes self.old.items (wanted_among self.old.most None self.old.seats r)) self.old.seats } }
+    {
+        match &self.index {
+            Some(index) => {
+                let conflicts = wanted_at(&self.lanes, index, place, None);
+                have(&mut self.lanes, place, conflicts.as_slice(), code);
+            }
+            None => {
+                // the limits come with the number of the started
+                let _ = self.lanes.len();
+            }
+        }
     }
 
     /// The furthest shadow at or before the cut is the optimistic one from now on, with its mark, and the others at or before
@@ -243,6 +281,37 @@ impl IndexedLanes {
                 note_step(index, place, position, kind);
             }
         }
+    }
+
+    /// The optimistic shadow of the transaction at a place reads an item of these tables, over which its state is a run, and is not out;
+    /// before the step the transaction gets the shadows that it wants after it. It ticks once.
+    pub fn read<L: Ledger>(
+        &mut self,
+        place: u32,
+        item: u32,
+        code: &Code,
+        tables: &Table,
+        steps: &mut Steps<L>,
+    )
+        requires place { place < length self.old.seats }
+        requires runs { (r : Seat) → slice_get self.old.seats place ≡ Some r → RunsHere code.now.nodes tables.now r.optimistic.state × HasKind code.now.nodes r.optimistic.state (TableRead item) × (r.optimistic.state.done ≡ false) }
+        requires tables { length tables.now ≡ self.old.items }
+        requires item { item < self.old.items }
+        requires carries { Carries code.now.nodes self.old.items }
+        ensures seats { (r : Seat) × (state : Held) × ((slice_get self.old.seats place ≡ Some r)
+            × ((self.new ≡ record self.old { seats = at_place place (seat_with 0 (stepped_slot state)) (at_place place (renewed code.now.nodes self.old.items (wanted_among self.old.most (Some item) self.old.seats r)) self.old.seats) })
+            × StepsOver code.now.nodes tables.now r.optimistic.state state)) }
+        ensures tick { steps.new ≡ steps.old + 1 }
+    {
+        // the limits come with the number of the started
+        let _ = self.lanes.len();
+        let position = self.lanes.state(place, 0).position();
+        if let Some(index) = &mut self.index {
+            let conflicts = wanted_at(&self.lanes, index, place, Some(item));
+            have(&mut self.lanes, place, conflicts.as_slice(), code);
+            index.note_read(place, position, item);
+        }
+        self.lanes.step(place, 0, code, tables, steps);
     }
 
     /// A shadow of the transaction at a place makes Local steps until its next one is not Local or so many are made, and is not out.

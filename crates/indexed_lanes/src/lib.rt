@@ -6,5 +6,6 @@
 mod lanes;
 mod noting;
 mod placed;
+mod wanting;
 
 pub use lanes::IndexedLanes;

@@ -1,8 +1,8 @@
 ghost use Rattle.std.specs.Prelude.{◌≡◌, ◌≢◌, ◌<◌, ◌≤◌, replicate, false, length, IfOk};
 ghost use Rattle.std.specs.Vec.{vec_capacity};
-ghost use Rattle.conflict_index.specs.Index.{lane_at, point_at, forgotten, with_read, with_write, lanes_with};
+ghost use Rattle.conflict_index.specs.Index.{lane_at, is_marked, point_at, forgotten, with_read, with_write, lanes_with};
 ghost use Rattle.shadow_lanes.specs.Kept.{AreAll};
-ghost use Rattle.indexed_lanes.specs.Placed.{moved};
+ghost use Rattle.indexed_lanes.specs.Placed.{moved, AreUnmoved};
 
 use conflict_index::Index;
 use std::alloc::{AllocError, Global};
@@ -52,6 +52,8 @@ impl PlacedIndex {
         requires item { item < self.old.items }
         ensures items { self.new.items ≡ self.old.items }
         ensures lanes { self.new.lanes ≡ lanes_with self.old place (with_read (lane_at self.old place) (position, item)) }
+        ensures marks { length self.new.marks ≡ length self.old.marks }
+        ensures unmoved { AreUnmoved self.old self.new }
     {
         let lane = self.order[place as usize];
         self.index.note_read(lane, position, item);
@@ -63,6 +65,8 @@ impl PlacedIndex {
         requires item { item < self.old.items }
         ensures items { self.new.items ≡ self.old.items }
         ensures lanes { self.new.lanes ≡ lanes_with self.old place (with_write (lane_at self.old place) item) }
+        ensures marks { length self.new.marks ≡ length self.old.marks }
+        ensures unmoved { AreUnmoved self.old self.new }
     {
         let lane = self.order[place as usize];
         self.index.note_write(lane, item);
@@ -73,6 +77,8 @@ impl PlacedIndex {
         requires place { place < length self.old.lanes }
         ensures items { self.new.items ≡ self.old.items }
         ensures lanes { self.new.lanes ≡ lanes_with self.old place forgotten }
+        ensures marks { length self.new.marks ≡ length self.old.marks }
+        ensures unmoved { AreUnmoved self.old self.new }
     {
         let lane = self.order[place as usize];
         self.index.forget(lane);
@@ -90,12 +96,28 @@ impl PlacedIndex {
         self.index.point_of(from, to)
     }
 
+    /// Whether a point of the lane at a place has moved since the marks were settled.
+    pub fn changed(&self, place: u32) -> bool
+        requires { place < length self.now.lanes }
+        ensures { result ≡ is_marked self.now place }
+    {
+        self.index.changed(self.order[place as usize])
+    }
+
+    /// Takes the mark from every lane.
+    pub fn settled(&mut self)
+        ensures { self.new ≡ record self.old { marks = replicate (length self.old.marks) false } }
+    {
+        self.index.settled();
+    }
+
     /// The lane at a place stands at another from now on, and those between them each one place on.
     pub fn move_to(&mut self, from: u32, to: u32)
         requires from { from < length self.old.lanes }
         requires to { to < length self.old.lanes }
         ensures items { self.new.items ≡ self.old.items }
         ensures lanes { self.new.lanes ≡ moved from to self.old.lanes }
+        ensures marks { self.new.marks ≡ moved from to self.old.marks }
     {
         let lane = self.order.remove(from as usize);
         let _placed = self.order.insert(to as usize, lane);

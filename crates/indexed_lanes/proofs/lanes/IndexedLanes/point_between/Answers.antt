@@ -1,7 +1,8 @@
 use Rattle.std.proofs.Common.{◌∙◌, ap₂}
 use Rattle.conflict_index.specs.Index.{Lane, point}
 use Rattle.index_laws.proofs.Ties.{points-same}
-use Rattle.indexed_lanes.proofs.Notes.{some_noted, noted_at}
+use Rattle.indexed_lanes.proofs.Notes.{noted_at}
+use Rattle.indexed_lanes.proofs.Keeping.{some_noted}
 use Rattle.indexed_lanes.proofs.lanes.IndexedLanes.point_between.Goals as goal
 
 pub returns-in-Some : goal.returns-in-Some
