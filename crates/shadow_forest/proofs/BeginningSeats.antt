@@ -1,22 +1,19 @@
 -- One more started transaction, at its start.
-use Rattle.std.proofs.Common.{◌≡◌, ℕ, ◌-◌, ◌==◌, Bool, false, List, [], ◌∷◌, length, map, filter_map, replicate, None, refl, ap, sym, ◌∙◌}
-use Rattle.std.proofs.Math.Seq.{take-nil}
-use Rattle.std.proofs.lemmas.Bool.{cases_Bool, cond_both, or_parts}
-use Rattle.txn_runs.specs.Run.{Tables, Read}
+use Rattle.std.proofs.Common.{◌≡◌, ℕ, ◌==◌, Bool, false, List, [], ◌∷◌, length, map, None, refl, sym, ◌∙◌}
+use Rattle.std.proofs.lemmas.Bool.{cases_Bool, or_parts}
+use Rattle.txn_runs.specs.Run.{Tables}
 use Rattle.txn_code.specs.declared.node.Node.{Node}
 use Rattle.txn_code.specs.Nodes.{nodes_of}
 use Rattle.journal_core.specs.declared.entry.Entry.{Entry}
 use Rattle.journal_core.specs.Recorded.{Recorded}
 use Rattle.journal_core.specs.Journal.{program_of}
 use Rattle.forest_model.specs.Choose.{put_in_order}
-use Rattle.forest_model.specs.Point.{point, wanted_of}
-use Rattle.forest_model.specs.Forest.{Forest, conflict_at, wanted, is_started}
+use Rattle.forest_model.specs.Forest.{Forest, wanted, is_started}
 use Rattle.forest_model.specs.Start.{fresh}
 use Rattle.forest_model.proofs.Lists.{either, all-both}
-use Rattle.forest_model.proofs.StartedLaws.{below, all-put, filter_map-put}
-use Rattle.forest_model.proofs.RunLaws.{own-none}
+use Rattle.forest_model.proofs.StartedLaws.{below, all-put}
 use Rattle.shadow_lanes.specs.Seats.{Seat, Seated, conflicts_of, started_of, find_seat, comes_before, fresh_seat, seats_with}
-use Rattle.shadow_forest.specs.Parts.{conflict_between, wanted_among}
+use Rattle.indexed_lanes.proofs.Renewed.{nothing_wanted, wanted_with}
 use Rattle.shadow_forest.specs.Kept.{forest_of, SeatStands, AllStand, AllNoted}
 use Rattle.shadow_forest.proofs.Seating.{fresh_stands}
 use Rattle.shadow_forest.proofs.Wanting.{wanted_are}
@@ -41,31 +38,6 @@ not_found (x ∷ seats) t h =
     let parts = or_parts (x.number == t) (is_started (map started_of seats) t) h in
     let other : x.number == t ≡ false = parts.0 in
     rw other (not_found seats t parts.1)
-
--- against one that has written nothing there is no conflict
-unwritten : (n : ℕ) (rs : List Read) → point rs (replicate n None) ≡ None
-unwritten n [] = refl
-unwritten n (x ∷ rs) = rw (own-none n x.1) (unwritten n rs)
-
-pub no_conflict : (t : ℕ) (nodes : List Node) (items : ℕ) (r : Seat) → conflict_between None r (fresh_seat t nodes items) ≡ None
-no_conflict t nodes items r =
-    cond_both (t == r.number) None (conflict_at t (point r.optimistic.state.log.reads (replicate items None))) (λ o. o ≡ None)
-    (λ e. refl) (λ e. ap (conflict_at t) (unwritten items r.optimistic.state.log.reads))
-
-pub nothing_wanted : (k t : ℕ) (nodes : List Node) (items : ℕ) (seats : List Seat) → wanted_among k None seats (fresh_seat t nodes items) ≡ []
-nothing_wanted k t nodes items seats = ap (λ pairs. wanted_of pairs k) (none seats) ∙ take-nil (k - 1)
-  where
-    none : (us : List Seat) → filter_map (conflict_between None (fresh_seat t nodes items)) us ≡ []
-    none [] = refl
-    none (u ∷ us) =
-        let here : conflict_between None (fresh_seat t nodes items) u ≡ None =
-        cond_both (u.number == t) None None (λ o. o ≡ None) (λ e. refl) (λ e. refl)
-        in
-        rw here (none us)
-
--- so the others want the same as without it
-wanted_with : (k t : ℕ) (nodes : List Node) (items : ℕ) (seats : List Seat) (r : Seat) → wanted_among k None (seats_with t nodes items seats) r ≡ wanted_among k None seats r
-wanted_with k t nodes items seats r = ap (λ pairs. wanted_of pairs k) (filter_map-put (conflict_between None r) comes_before (fresh_seat t nodes items) seats (no_conflict t nodes items r))
 
 -- all states stand with its state
 pub stand_with : (journal : List Entry) (d : Tables) (t : ℕ) (nodes : List Node) (items : ℕ) (seats : List Seat) → nodes ≡ nodes_of (program_of journal t) → items ≡ length d → AllStand journal d seats

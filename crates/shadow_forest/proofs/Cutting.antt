@@ -5,13 +5,13 @@ use Rattle.std.proofs.lemmas.List.{append_assoc}
 use Rattle.std.proofs.lemmas.Option.{same_Some}
 use Rattle.txn_code.specs.declared.node.Node.{Node}
 use Rattle.txn_interp.specs.State.{Held}
-use Rattle.forest_model.specs.Point.{point}
 use Rattle.shadow_state.specs.Bank.{Slot, at_place}
 use Rattle.shadow_lanes.specs.Seats.{Seat, Seated, slot_at, promoted_seat}
 use Rattle.shadow_forest.specs.declared.txn.Txn.{Txn}
 use Rattle.shadow_forest.specs.Parts.{nodes_at, cut_seat, seat_cut, seat_after, back_to, taken_back}
 use Rattle.shadow_forest.specs.Ready.{IsCarried, AreCarried}
-use Rattle.shadow_forest.proofs.Places.{all-at, slice_get-some, so_far, slice_get-so_far, slice_get-so_far_still, so_far_more, so_far_more-at, so_far_more-still, slice_get-at_place_same, filter_map_more-none, filter_map_more-some}
+use Rattle.shadow_forest.proofs.Places.{all-at, slice_get-some, so_far, slice_get-so_far, slice_get-so_far_still, so_far_more, so_far_more-at, so_far_more-still, slice_get-at_place_same}
+use Rattle.indexed_lanes.proofs.Passing.{filter_map_more-none, filter_map_more-some}
 use Rattle.shadow_forest.proofs.SeatPlaces.{with_seats, number-at, state-at}
 
 -- One.

@@ -30,7 +30,7 @@ use Rattle.forest_model.proofs.CommitLaws.{after_cut-number, committed-sound}
 use Rattle.shadow_lanes.specs.Seats.{Seat, Seated, conflicts_of, shadow_of, started_of, seats_without}
 use Rattle.shadow_forest.specs.declared.txn.Txn.{Txn}
 use Rattle.forest_model.specs.Runs.{is_done}
-use Rattle.shadow_forest.specs.Parts.{nodes_at, seat_after, taken_back, seats_with_some}
+use Rattle.shadow_forest.specs.Parts.{nodes_at, seat_after, taken_back}
 use Rattle.shadow_forest.proofs.RenewedForest.{map_same}
 use Rattle.shadow_forest.specs.View.{View, told_commit}
 use Rattle.shadow_forest.specs.Kept.{forest_of, SlotStands, SeatStands, IsForest, owed}
@@ -41,8 +41,6 @@ use Rattle.shadow_forest.proofs.Moving.{IsBehind}
 use Rattle.shadow_forest.proofs.Starting.{IsSelf, IsUnstarted}
 use Rattle.shadow_forest.proofs.Ending.{Ends, commit_ends, IsOneLess, within_more, sealed_same, stand_same, waiting_same, without_numbers, seats_fewer}
 use Rattle.shadow_forest.proofs.Leaving.{selves}
-use Rattle.shadow_forest.proofs.Around.{IsEnding, IsAfterEnd}
-use Rattle.shadow_forest.proofs.EndedSeats.{noted_seats, same_each, done_each}
 use Rattle.shadow_forest.proofs.BeginningEntry.{pushed, is_pushed, txns_other}
 use Rattle.shadow_forest.proofs.CutForest.{IsWhole, whole_effect, undone_over, IsKeptSeat, behind_of, IsCutTo, AreCut, IsCoded, undone_all, done_all}
 
@@ -234,7 +232,6 @@ pub record IsCutStep (journal : Recorded) (d : Tables) (s : Seated) (us : Seat) 
   pub tables_are : d' ≡ over (effect_of (program_of journal.entries us.number) d) d
   pub seats_are : s' ≡ record s { seats = map change s.seats }
   pub back_are : back ≡ filter_map told s.seats
-  pub each : AllByRecursion (λ (x : Seat). IsEnding us.number back s.most s.seats x (change x)) s.seats
 
 pub outcome_from : (journal : Recorded) (d : Tables) (s : Seated) (at t : ℕ) (e : IsEndAt journal d s at t) (st : Held) (o : Outcome) → st ≡ e.seat.optimistic.state
     → ((nodes : List Node) (body : List Stmt) (tables : Tables) → RunsOver nodes body tables st → o ≡ outcome_of body tables) → o ≡ outcome_of (program_of journal.entries e.seat.number) d
@@ -257,9 +254,6 @@ module _ (journal : Recorded) (d : Tables) (kept : List Txn) (queue : List ℕ) 
     tables_are = tables ∙ ap (λ ws. over ws d) (sym (whole_effect (program_of journal.entries e.seat.number) d e.seat.optimistic e.whole done));
     seats_are = seats;
     back_are = told_is;
-    each =
-        subst (λ named. AllByRecursion (λ (x : Seat). IsEnding e.seat.number named s.most s.seats x (seat_after s.items kept e.seat x)) s.seats) (sym told_is)
-        (done_each (forest_of journal d s) s.items kept e.seat s.most s.seats (coded journal d kept queue s h) (noted_seats journal d kept queue s h));
   }
 
   -- and where it is one
@@ -271,7 +265,6 @@ module _ (journal : Recorded) (d : Tables) (kept : List Txn) (queue : List ℕ) 
     tables_are = tables ∙ sym (undone_over (program_of journal.entries e.seat.number) d undone);
     seats_are = seats ∙ ap (λ xs. record s { seats = xs }) (sym (map_same s.seats));
     back_are = told_is ∙ sym (nothing_told s.seats);
-    each = same_each e.seat.number back s.most s.seats (noted_seats journal d kept queue s h);
   }
 
 -- what the journal and the seats are after the entry is written and t is not started any more
@@ -292,17 +285,6 @@ module _ (journal : Recorded) (d : Tables) (kept : List Txn) (queue : List ℕ) 
   left_seats =
       w.left_are ∙ ap (λ (x : Seated). record x { seats = seats_without t x.seats }) step.seats_are
       ∙ ap (λ n. record s { seats = seats_without n (map step.change s.seats) }) (sym e.number)
-
-  -- one may start then
-  pub after_end : (txns : List Txn) (o : Option ℕ) (s'' : Seated) → s'' ≡ record left { seats = seats_with_some txns left.items o left.seats } → IsAfterEnd t back txns s s''
-  after_end txns o s'' is = record {
-    change = step.change;
-    each = subst (λ n. AllByRecursion (λ (x : Seat). IsEnding n back s.most s.seats x (step.change x)) s.seats) e.number step.each;
-    who = o;
-    seats_are =
-        is ∙ ap (λ (x : Seated). record x { seats = seats_with_some txns x.items o x.seats }) left_seats
-        ∙ ap (λ n. record s { seats = seats_with_some txns s.items o (seats_without n (map step.change s.seats)) }) e.number;
-  }
 
   pub written_forest : forest_of journal' d' left ≡ laid (forest_of journal d s) (started_of e.seat)
   written_forest =

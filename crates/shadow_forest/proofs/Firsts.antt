@@ -12,7 +12,7 @@ use Rattle.shadow_forest.specs.declared.txn.Txn.{Txn}
 use Rattle.shadow_lanes.specs.Seats.{Seat}
 use Rattle.shadow_forest.specs.Parts.{deadline_at, is_prior_at, later_of}
 use Rattle.shadow_forest.specs.Ready.{IsCarried, IsAmong}
-use Rattle.shadow_forest.proofs.Places.{take_more-at}
+use Rattle.indexed_lanes.proofs.Passing.{take_more-at}
 
 -- the best so far, of which the one that was there stays where neither comes first
 pub first_with-later : {X : Type 0} (before : X → X → Bool) (o : Option X) (x : X) → first_with before o x ≡ Some (later_of before o x)

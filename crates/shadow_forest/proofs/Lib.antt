@@ -1,5 +1,4 @@
 pub mod Accepting
-pub mod Around
 pub mod Beginning
 pub mod BeginningEntry
 pub mod BeginningQueue
@@ -11,13 +10,11 @@ pub mod CutForest
 pub mod Cutting
 pub mod Drains
 pub mod Elements
-pub mod EndedSeats
 pub mod Ending
 pub mod Finishing
 pub mod FirstPlaces
 pub mod Firsts
 pub mod Freed
-pub mod Fronts
 pub mod Gates
 pub mod GivenBack
 pub mod Guarded
@@ -55,4 +52,3 @@ pub mod StillFirst
 pub mod Stores
 pub mod Taking
 pub mod Wanting
-pub mod WroteLess

@@ -1,5 +1,5 @@
 -- A step of an optimistic shadow.
-use Rattle.std.proofs.Common.{◌≡◌, ◌≢◌, ℕ, zero, suc, ◌<◌, ◌==◌, true, false, List, [], ◌∷◌, ◌++◌, map, is_some, Some, None, Ok, refl, ap, sym, subst, ◌∙◌, eqb-true, eq-eqb, true≢false, lt-ltb}
+use Rattle.std.proofs.Common.{◌≡◌, ◌≢◌, ℕ, zero, suc, ◌<◌, ◌==◌, true, false, List, [], ◌∷◌, ◌++◌, map, Some, None, Ok, refl, ap, sym, subst, ◌∙◌, eqb-true, eq-eqb, true≢false, lt-ltb}
 use Rattle.std.specs.Prelude.{if◌then◌else◌}
 use Rattle.std.specs.List.{AllByRecursion, AllZip}
 use Rattle.std.proofs.lemmas.Bool.{cases_Bool, cond_both, ne_eqb, cases_lt}
@@ -28,17 +28,19 @@ use Rattle.forest_model.proofs.RunLaws.{reads-below, ended-from_length}
 use Rattle.shadow_state.specs.Bank.{at_place}
 use Rattle.shadow_lanes.specs.Seats.{Seat, Seated, conflicts_of, shadow_of, started_of, stepped_slot, seat_with, StepsOver}
 use Rattle.shadow_forest.specs.declared.txn.Txn.{Txn}
-use Rattle.shadow_forest.specs.Parts.{point_with, conflict_between, wanted_among, renewed, nodes_at, renewed_among, has_read, reader_renewed, readers_renewed}
+use Rattle.shadow_forest.specs.Parts.{nodes_at, renewed_among, all_renewed}
+use Rattle.indexed_lanes.specs.Wanted.{point_with, conflict_between, wanted_among, renewed}
 use Rattle.shadow_forest.specs.Ready.{IsCarried, AreCarried}
 use Rattle.shadow_forest.specs.Kept.{forest_of, SlotStands, SeatStands, AllStand, IsForest}
 use Rattle.shadow_forest.proofs.Keeping.{at_number, at_number_keeps, place_is_number, alone, changed}
 use Rattle.shadow_forest.proofs.Placing.{IsAt, all_coded, all_carried, nodes_are}
 use Rattle.shadow_forest.proofs.Wanting.{reads_are, writes_are, wanted_are}
 use Rattle.shadow_forest.proofs.SettledForest.{all_unmapped, found_each, IsSettling, settled_forest, settled_change}
-use Rattle.shadow_forest.proofs.Seating.{renewed_numbers, renewed_conflicts, renewed_stands, renewed_number, renewed_optimistic}
+use Rattle.shadow_forest.proofs.Seating.{renewed_numbers, renewed_stands}
+use Rattle.indexed_lanes.proofs.Renewed.{renewed_conflicts, renewed_number, renewed_optimistic, renewed_same}
 use Rattle.indexed_lanes.proofs.Steps.{local_step, read_step, write_step}
-use Rattle.shadow_forest.proofs.StepWants.{point_push, point_unread, wants_points, wants_same}
-use Rattle.shadow_forest.proofs.Renewing.{is_reader}
+use Rattle.shadow_forest.proofs.StepWants.{wants_same}
+use Rattle.indexed_lanes.proofs.Reading.{point_push}
 
 -- the transaction with its optimistic state one step on
 abbrev pub stepped_seat : Held → Seat → Seat
@@ -366,59 +368,28 @@ module _ (journal : Recorded) (d : Tables) (kept : List Txn) (queue : List ℕ) 
       wanted_are journal d mids (mid x) mids_stand (subst (λ n. SlotStands (program_of journal.entries n) d (mid x).optimistic) (sym (mid_number x)) (mid_stands x old).optimistic)
       ∙ ap (λ f. wanted f (started_of (mid x))) (sym mid_forest)
 
-  -- one that has not read the item wants what it wanted
-  unread_wants : (item : ℕ) (v : _) → kind_of (after its_program d r.position) ≡ Write item v → (x : Seat) → IsOld x → x.number ≢ t → has_read item x ≡ false → wants x ≡ wanted before_it (started_of x)
-  unread_wants item v kind x old ne unread =
-      let same : moved (started_of x) ≡ started_of x = other_stays (started_of x) ne in
-      let log : is_some (logged (reads_of before_it (started_of x)) item) ≡ false =
-      ap (λ rs. is_some (logged rs item)) (reads_are (program_of journal.entries x.number) d x.optimistic old.stand.optimistic) ∙ unread
-      in
-      wants_moved x (mid_is x)
-      ∙ wants_points before_it moved (started_of x) (moved_to-number t (suc r.position))
-      (all-weaken (λ (y : Started). y.number ≡ t → y ≡ r)
-      (λ (u : Started). u.number ≢ x.number → point (reads_of before_it (moved (started_of x))) (writes_of before_it (moved u)) ≡ point (reads_of before_it (started_of x)) (writes_of before_it u))
-      (λ u is_r apart.
-      ap (λ y. point (reads_of before_it y) (writes_of before_it (moved u))) same
-      ∙ either (cases_Bool (u.number == t))
-      (λ e. subst (λ y. point (reads_of before_it (started_of x)) (writes_of before_it (moved y)) ≡ point (reads_of before_it (started_of x)) (writes_of before_it y)) (sym (is_r (eqb-true _ _ e))) (written log))
-      (λ e. ap (λ y. point (reads_of before_it (started_of x)) (writes_of before_it y)) (other_stays u (λ q. true≢false (sym (eq-eqb _ _ q) ∙ e)))))
-      before_it.started started_alone)
-    where
-      written : is_some (logged (reads_of before_it (started_of x)) item) ≡ false → point (reads_of before_it (started_of x)) (writes_of before_it (moved r)) ≡ point (reads_of before_it (started_of x)) (writes_of before_it r)
-      written log =
-          ap (point (reads_of before_it (started_of x))) (self_writes ∙ (write_step its_program d r.position item v kind).1)
-          ∙ point_unread item v (writes its_program d r.position) (reads_of before_it (started_of x)) log
-          ∙ ap (point (reads_of before_it (started_of x))) (sym old_writes)
+  -- each gets what it wants
+  abbrev pub write_change : Seat → Seat
+  write_change x = renewed_among s.most s.items kept mids.seats (mid x)
 
-  abbrev pub write_change : ℕ → Seat → Seat
-  write_change item x = reader_renewed s.most s.items kept t item mids.seats (mid x)
+  pub write_change_number : (x : Seat) → (write_change x).number ≡ x.number
+  write_change_number x = renewed_number (nodes_at kept (mid x).number) s.items (wanted_among s.most None mids.seats (mid x)) (mid x) ∙ mid_number x
 
-  pub write_change_number : (item : ℕ) (x : Seat) → (write_change item x).number ≡ x.number
-  write_change_number item x =
-      cond_both (is_reader t item (mid x)) (renewed_among s.most s.items kept mids.seats (mid x)) (mid x) (λ (y : Seat). y.number ≡ x.number)
-      (λ e. renewed_number (nodes_at kept (mid x).number) s.items (wanted_among s.most None mids.seats (mid x)) (mid x) ∙ mid_number x) (λ e. mid_number x)
-
-  pub write_fins : (item : ℕ) (v : _) → kind_of (after its_program d r.position) ≡ Write item v → AllByRecursion (λ (x : Seat). IsFin x (write_change item x)) s.seats
+  pub write_fins : (item : ℕ) (v : _) → kind_of (after its_program d r.position) ≡ Write item v → AllByRecursion (λ (x : Seat). IsFin x (write_change x)) s.seats
   write_fins item v kind =
-      all-both IsOld (λ (x : Seat). nodes_at kept x.number ≡ nodes_of (program_of journal.entries x.number)) (λ (x : Seat). IsFin x (write_change item x))
+      all-both IsOld (λ (x : Seat). nodes_at kept x.number ≡ nodes_of (program_of journal.entries x.number)) (λ (x : Seat). IsFin x (write_change x))
       (λ x old code.
       either (cases_Bool (x.number == t))
-      (λ e. subst (λ y. IsFin x y) (sym (itself x e)) (stays_fin x old (own_wants item v kind x old (eqb-true _ _ e))))
-      (λ e. either (cases_Bool (has_read item x))
-      (λ has. subst (λ y. IsFin x y) (sym (reader x e has)) (renewed_fin x old e code))
-      (λ not_read.
-      let ne : x.number ≢ t = (λ q. true≢false (sym (eq-eqb _ _ q) ∙ e)) in
-      subst (λ y. IsFin x y) (sym (other x e not_read)) (stays_fin x old (unread_wants item v kind x old ne not_read)))))
+      (λ e.
+      let fin = stays_fin x old (own_wants item v kind x old (eqb-true _ _ e)) in
+      subst (λ y. IsFin x y) (sym (renewed_same (nodes_at kept (mid x).number) s.items (wanted_among s.most None mids.seats (mid x)) (mid x) (fin.noted ∙ sym (among_is x old)))) fin)
+      (λ e. subst (λ y. IsFin x y) (sym (other x e)) (renewed_fin x old e code)))
       s.seats olds (all_coded journal d kept queue s h.all)
     where
-      itself : (x : Seat) → x.number == t ≡ true → write_change item x ≡ mid x
-      itself x e = rw (mid_number x, e) refl
-
-      reader : (x : Seat) → x.number == t ≡ false → has_read item x ≡ true → write_change item x ≡ renewed (nodes_at kept x.number) s.items (wanted_among s.most None mids.seats (mid x)) x
-      reader x e has = rw (e, e, has) refl
-
-      other : (x : Seat) → x.number == t ≡ false → has_read item x ≡ false → write_change item x ≡ mid x
-      other x e not_read = rw (e, e, not_read) refl
+      other : (x : Seat) → x.number == t ≡ false → write_change x ≡ renewed (nodes_at kept x.number) s.items (wanted_among s.most None mids.seats (mid x)) x
+      other x e =
+          let same : mid x ≡ x = rw e refl in
+          ap (λ (y : Seat). renewed (nodes_at kept y.number) s.items (wanted_among s.most None mids.seats (mid x)) y) same
 
       renewed_fin : (x : Seat) → IsOld x → x.number == t ≡ false → nodes_at kept x.number ≡ nodes_of (program_of journal.entries x.number) → IsFin x (renewed (nodes_at kept x.number) s.items (wanted_among s.most None mids.seats (mid x)) x)
       renewed_fin x old e code =
@@ -475,13 +446,13 @@ module _ (journal : Recorded) (d : Tables) (kept : List Txn) (queue : List ℕ) 
       stepped_all x = record x { seats = at_place at (stepped_seat st) x.seats }
 
   pub write_done : (first new : Seated) (item : ℕ) (v : _) → kind_of (after its_program d r.position) ≡ Write item v → first ≡ record s { seats = at_place at (stepped_seat st) s.seats }
-      → new ≡ record first { seats = readers_renewed first.most first.items kept t item first.seats } → IsStepOf new
+      → new ≡ record first { seats = all_renewed first.most first.items kept first.seats } → IsStepOf new
   write_done first new item v kind step_is renew_is =
-      done_by (write_change item) new (write_change_number item) (write_fins item v kind)
-      (renew_is ∙ ap renewed_all (step_is ∙ ap with_all (placed (stepped_seat st))) ∙ ap with_all (map-map (reader_renewed s.most s.items kept t item mids.seats) mid s.seats))
+      done_by write_change new write_change_number (write_fins item v kind)
+      (renew_is ∙ ap renewed_all (step_is ∙ ap with_all (placed (stepped_seat st))) ∙ ap with_all (map-map (renewed_among s.most s.items kept mids.seats) mid s.seats))
     where
       renewed_all : Seated → Seated
-      renewed_all x = record x { seats = readers_renewed x.most x.items kept t item x.seats }
+      renewed_all x = record x { seats = all_renewed x.most x.items kept x.seats }
 
   -- what settling all needs after the step of a write
   pub write_carried : (first : Seated) → first ≡ record s { seats = at_place at (stepped_seat st) s.seats } → AreCarried first.items kept first.seats

@@ -1,5 +1,5 @@
 -- The call that makes a step of an optimistic shadow.
-use Rattle.std.proofs.Common.{◌≡◌, ◌≢◌, ℕ, suc, ◌+◌, ◌≤◌, ◌<◌, true, false, ℤ, List, map, length, Some, Result, Ok, Err, refl, ap, sym, subst, ◌∙◌, arith, true≢false, ltb, ltb-true}
+use Rattle.std.proofs.Common.{◌≡◌, ◌≢◌, ℕ, suc, ◌+◌, ◌≤◌, true, false, ℤ, List, map, length, Some, Result, Ok, Err, refl, ap, sym, subst, ◌∙◌, arith, true≢false, ltb, ltb-true}
 use Rattle.std.specs.Prelude.{slice_get, option_map, option_and_then, IsTrue, ◌↔◌}
 use Rattle.std.proofs.lemmas.Bool.{cases_Bool}
 use Rattle.block_rule.specs.declared.role.Role.TheVariants.{Optimistic}
@@ -27,14 +27,13 @@ use Rattle.shadow_lanes.specs.Seats.{Seat, Seated, slots_of, slot_at, started_of
 use Rattle.shadow_forest.specs.View.{View}
 use Rattle.indexed_lanes.specs.Noted.{RunsHere}
 use Rattle.shadow_forest.specs.declared.txn.Txn.{Txn}
-use Rattle.shadow_forest.specs.Parts.{nodes_at, renewed, wanted_among, readers_renewed}
+use Rattle.shadow_forest.specs.Parts.{nodes_at, all_renewed}
+use Rattle.indexed_lanes.specs.Wanted.{renewed, wanted_among}
 use Rattle.shadow_forest.specs.Ready.{AreCarried}
 use Rattle.forest_model.specs.Point.{Conflict}
 use Rattle.shadow_forest.specs.Kept.{forest_of, IsForest}
 use Rattle.shadow_forest.proofs.Placing.{IsAtView, some_same, nodes_are, runs, runs_here}
 use Rattle.shadow_forest.proofs.Optimistic.{IsNext, IsStepOf, event_is, next_is, local_done, read_done, write_done, write_carried}
-use Rattle.shadow_forest.proofs.Places.{slice_get-at_place_same, length-at_place}
-use Rattle.shadow_forest.proofs.Seating.{renewed_optimistic}
 
 -- the call has found the transaction at a place, its optimistic state, and what its next step is
 pub record IsCall (journal : Recorded) (d : Tables) (kept : List Txn) (queue : List ℕ) (s : Seated) (at t : ℕ) (now : View) (nodes : List Node) (state : Held) (kind : Kind) : Type 0 where
@@ -153,34 +152,28 @@ module _ (journal : Recorded) (d : Tables) (kept : List Txn) (queue : List ℕ) 
       answered journal d kept queue s at t now c.v st next position new (from_state at_is) seen
       (local_done journal d kept queue s at t c.v.started st next new (c.kind_is ∙ is) new_is)
 
-  -- the slot of the transaction, after it has got its shadows
-  renewed_slot : (first : Seated) (ws : List Conflict) → first ≡ record s { seats = at_place at (renewed nodes s.items ws) s.seats } → slot_at first.seats at 0 ≡ Some c.v.a.seat.optimistic
-  renewed_slot first ws renew_is =
-      ap (λ (x : Seated). slot_at x.seats at 0) renew_is
-      ∙ first_slot (record s { seats = at_place at (renewed nodes s.items ws) s.seats }) at (renewed nodes s.items ws c.v.a.seat) (slice_get-at_place_same at (renewed nodes s.items ws) s.seats c.v.a.seat c.v.a.there)
-      ∙ ap Some (renewed_optimistic nodes s.items ws c.v.a.seat)
+  -- what is asked of a read
+  pub read_may : (item : ℕ) → kind ≡ TableRead item → HasKind nodes state kind → (x : Seat) → slice_get s.seats at ≡ Some x
+      → RunsHere nodes d x.optimistic.state × HasKind nodes x.optimistic.state (TableRead item) × (x.optimistic.state.done ≡ false)
+  read_may item is has x there =
+      let same : x ≡ c.v.a.seat = some_same _ _ (sym there ∙ c.v.a.there) in
+      let go = may_go journal d kept queue s at t now nodes state kind c (λ e. let q : TableRead item ≡ Ended = sym is ∙ e in cc) x.optimistic (first_slot s at x there) in
+      let of_x : state ≡ x.optimistic.state = c.state_is ∙ ap (λ (y : Seat). y.optimistic.state) (sym same) in
+      (go.0, subst (λ (y : Held). HasKind nodes y (TableRead item)) of_x (subst (HasKind nodes state) is has), go.1)
 
-  pub renewed_below : (first : Seated) (ws : List Conflict) → first ≡ record s { seats = at_place at (renewed nodes s.items ws) s.seats } → at < length first.seats
-  renewed_below first ws renew_is = subst (λ (x : Seated). at < length x.seats) (sym renew_is) (subst (λ n. at < n) (sym (length-at_place at (renewed nodes s.items ws) s.seats)) c.v.a.below)
-
-  pub renewed_go : (first : Seated) (ws : List Conflict) → kind ≢ Ended → first ≡ record s { seats = at_place at (renewed nodes s.items ws) s.seats } → (x : Slot) → slot_at first.seats at 0 ≡ Some x → RunsHere nodes d x.state × (x.state.done ≡ false)
-  renewed_go first ws other renew_is x there =
-      let same : x ≡ c.v.a.seat.optimistic = some_same _ _ (sym there ∙ renewed_slot first ws renew_is) in
-      rw same (may_go journal d kept queue s at t now nodes state kind c other c.v.a.seat.optimistic (first_slot s at c.v.a.seat c.v.a.there))
-
-  pub read_call : (item : ℕ) (ws : List Conflict) (first : Seated) (old : Slot) (st : Held) (new : Seated) → kind ≡ TableRead item → position ≡ state.position → now.numbers ≡ forest_of journal d s
-      → ((r : Seat) → slice_get s.seats at ≡ Some r → ws ≡ wanted_among s.most (Some item) s.seats r) → first ≡ record s { seats = at_place at (renewed nodes s.items ws) s.seats }
-      → slot_at first.seats at 0 ≡ Some old → new ≡ record first { seats = at_place at (seat_with 0 (stepped_slot st)) first.seats } → StepsOver nodes d old.state st
+  pub read_call : (item : ℕ) (x : Seat) (st : Held) (new : Seated) → kind ≡ TableRead item → position ≡ state.position → now.numbers ≡ forest_of journal d s → slice_get s.seats at ≡ Some x
+      → new ≡ record s { seats = at_place at (seat_with 0 (stepped_slot st)) (at_place at (renewed nodes s.items (wanted_among s.most (Some item) s.seats x)) s.seats) } → StepsOver nodes d x.optimistic.state st
       → IsOptimisticStep journal d kept queue t now position new
-  read_call item ws first old st new is at_is seen wants_is renew_is there new_is steps =
-      let same : old ≡ c.v.a.seat.optimistic = some_same _ _ (sym there ∙ renewed_slot first ws renew_is) in
-      let next = next_of old st (λ e. let q : TableRead item ≡ Ended = sym is ∙ e in cc) same steps in
+  read_call item x st new is at_is seen there new_is steps =
+      let same : x ≡ c.v.a.seat = some_same _ _ (sym there ∙ c.v.a.there) in
+      let next = next_of x.optimistic st (λ e. let q : TableRead item ≡ Ended = sym is ∙ e in cc) (ap (λ (y : Seat). y.optimistic) same) steps in
+      let ws : List Conflict = wanted_among s.most (Some item) s.seats x in
       answered journal d kept queue s at t now c.v st next position new (from_state at_is) seen
-      (read_done journal d kept queue s at t c.v.started st next first new nodes ws item c.code (c.kind_is ∙ is) (wants_is next.a.seat next.a.there) renew_is new_is)
+      (read_done journal d kept queue s at t c.v.started st next (record s { seats = at_place at (renewed nodes s.items ws) s.seats }) new nodes ws item c.code (c.kind_is ∙ is) (ap (wanted_among s.most (Some item) s.seats) (some_same x next.a.seat (sym there ∙ next.a.there))) refl new_is)
 
   pub write_call : (item : ℕ) (v : ℤ) (first : Seated) (old : Slot) (st : Held) (new : Seated) → kind ≡ Write item v → position ≡ state.position → now.numbers ≡ forest_of journal d s
       → slot_at s.seats at 0 ≡ Some old → first ≡ record s { seats = at_place at (seat_with 0 (stepped_slot st)) s.seats } → StepsOver nodes d old.state st
-      → new ≡ record first { seats = readers_renewed first.most first.items kept t item first.seats } → IsOptimisticStep journal d kept queue t now position new
+      → new ≡ record first { seats = all_renewed first.most first.items kept first.seats } → IsOptimisticStep journal d kept queue t now position new
   write_call item v first old st new is at_is seen there step_is steps new_is =
       let same : old ≡ c.v.a.seat.optimistic = some_same _ _ (sym there ∙ first_slot s at c.v.a.seat c.v.a.there) in
       let next = next_of old st (λ e. let q : Write item v ≡ Ended = sym is ∙ e in cc) same steps in

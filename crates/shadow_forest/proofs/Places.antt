@@ -1,8 +1,6 @@
 -- Lists by places: an element read or changed at one, and a change of each element from the left.
-use Rattle.std.proofs.Common.{add-one, ◌≡◌, ℕ, zero, suc, ◌+◌, ◌<◌, ◌≤◌, List, [], ◌∷◌, ◌++◌, length, map, filter_map, take, drop, Option, Some, None, option_map, refl, ap, sym, ◌∙◌, arith, slice_get}
-use Rattle.std.specs.List.{AllByRecursion, cons_option}
-use Rattle.std.proofs.lemmas.List.{append-nil}
-use Rattle.std.proofs.lemmas.List.Elements.{filter_map-append}
+use Rattle.std.proofs.Common.{add-one, ◌≡◌, ℕ, zero, suc, ◌+◌, ◌<◌, ◌≤◌, List, [], ◌∷◌, ◌++◌, length, map, filter_map, take, drop, Option, Some, option_map, refl, ap, sym, ◌∙◌, arith, slice_get}
+use Rattle.std.specs.List.{AllByRecursion}
 use Rattle.shadow_state.specs.Bank.{at_place}
 
 -- Reading.

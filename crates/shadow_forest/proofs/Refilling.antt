@@ -9,7 +9,8 @@ use Rattle.shadow_lanes.specs.Seats.{Seated}
 use Rattle.shadow_forest.specs.declared.txn.Txn.{Txn}
 use Rattle.shadow_forest.specs.Kept.{forest_of, IsForest}
 use Rattle.shadow_forest.proofs.Starting.{IsUnstarted, IsFilled, filled_keeps, filled_forest}
-use Rattle.shadow_forest.proofs.RenewedForest.{all_renewed, IsUnsettled, renewed_kept, renewed_forest}
+use Rattle.shadow_forest.proofs.RenewedForest.{IsUnsettled, renewed_kept, renewed_forest}
+use Rattle.shadow_forest.specs.Parts.{all_renewed}
 
 -- what the code makes of those that wait and of the seats: o starts, and all are renewed
 pub record IsRefilled (kept : List Txn) (queue : List ℕ) (s : Seated) (o : Option ℕ) (queue' : List ℕ) (s' s'' : Seated) : Type 0 where

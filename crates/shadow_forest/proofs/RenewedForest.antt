@@ -13,11 +13,13 @@ use Rattle.forest_model.proofs.RestLaws.{IsApart}
 use Rattle.shadow_lanes.specs.Seats.{Seat, Seated, conflicts_of, shadow_of, started_of}
 use Rattle.shadow_forest.specs.declared.txn.Txn.{Txn}
 use Rattle.shadow_forest.specs.Answers.{IsWithin}
-use Rattle.shadow_forest.specs.Parts.{nodes_at, wanted_among, renewed, renewed_among}
+use Rattle.shadow_forest.specs.Parts.{nodes_at, renewed_among, all_renewed}
+use Rattle.indexed_lanes.specs.Wanted.{wanted_among, renewed}
 use Rattle.shadow_forest.specs.Ready.{IsCarried, AreCarried}
 use Rattle.shadow_forest.specs.Kept.{forest_of, SeatStands, AllStand, AreTxns, IsForest, owed}
 use Rattle.shadow_forest.proofs.Begun.{IsBegun, live_is_begun, is_carried}
-use Rattle.shadow_forest.proofs.Seating.{renewed_started, renewed_conflicts, renewed_number, renewed_stands}
+use Rattle.shadow_forest.proofs.Seating.{renewed_started, renewed_stands}
+use Rattle.indexed_lanes.proofs.Renewed.{renewed_conflicts, renewed_number}
 use Rattle.shadow_forest.proofs.Wanting.{wanted_are}
 use Rattle.shadow_forest.proofs.Keeping.{filter_agree, started_same}
 use Rattle.shadow_forest.proofs.SettledForest.{all_unmapped, IsSettling, settled_forest, settled_change}
@@ -27,10 +29,6 @@ pub record IsOld (before : List Started) (f : Forest) (r : Seat) : Type 0 where
   pub apart : IsApart (conflicts_of r)
   pub fits : AllZip StandsFor (map shadow_of r.waiters) (conflicts_of r)
   pub found : settled_shadows (find_started before r.number) (wanted f (started_of r)) ≡ settled_shadows (Some (started_of r)) (wanted f (started_of r))
-
--- each with the shadows that it wants now
-abbrev pub all_renewed : ℕ → ℕ → List Txn → List Seat → List Seat
-all_renewed k items txns seats = map (renewed_among k items txns seats) seats
 
 -- what the fields of a forest keep before all are renewed
 pub record IsUnsettled (journal : Recorded) (d : Tables) (kept : List Txn) (queue : List ℕ) (s : Seated) (before : List Started) : Type 0 where

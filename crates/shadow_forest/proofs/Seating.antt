@@ -24,7 +24,8 @@ use Rattle.forest_model.proofs.OriginLaws.{copy-position, kept-found, heir-furth
 use Rattle.forest_model.proofs.RestLaws.{IsApart, settle_again}
 use Rattle.shadow_state.specs.Bank.{Slot, fresh_slot}
 use Rattle.shadow_lanes.specs.Seats.{Waiter, Seat, conflict_of, conflicts_of, shadow_of, started_of, guard_slot, role_slot, slot_from, waiter_for, settled_seat, stays, promoted_by, promoted_seat}
-use Rattle.shadow_forest.specs.Parts.{same_conflict, same_conflicts, renewed}
+use Rattle.indexed_lanes.specs.Wanted.{same_conflicts, renewed}
+use Rattle.indexed_lanes.proofs.Renewed.{same_lists, renewed_number, renewed_optimistic}
 use Rattle.shadow_forest.specs.Kept.{SlotStands, SeatStands}
 
 -- The slot of a guard.
@@ -135,10 +136,6 @@ settled_numbers nodes items r ws apart =
     (all-everywhere (λ w. shadow_of (waiter_for nodes items r w) ≡ stay_or_copy (find (stands_for w) (map shadow_of r.waiters)) (positions_in (Some (started_of r))) w)
     (λ w. stays_or_copied nodes items r w apart (find (stands_for w) (map shadow_of r.waiters)) refl) ws)
 
-pub settled_conflicts : (nodes : List Node) (items : ℕ) (r : Seat) (ws : List Conflict) → conflicts_of (settled_seat nodes items ws r) ≡ ws
-settled_conflicts nodes items r [] = refl
-settled_conflicts nodes items r (w ∷ ws) = ap (λ xs. w ∷ xs) (settled_conflicts nodes items r ws)
-
 -- As states.
 
 guard_stands : (p : Program) (d : Tables) (u : ℕ) (ws : List Waiter) (o : Slot) → SlotStands p d o → AllByRecursion (λ (w : Waiter). SlotStands p d w.slot) ws → SlotStands p d (guard_slot u ws o)
@@ -170,19 +167,6 @@ settled_stands p d nodes items r ws code size h = record {
 
 -- Renewing.
 
-same_pair : (x y : Conflict) → same_conflict x y ≡ true → x ≡ y
-same_pair x y h =
-    let both = and_parts (x.0 == y.0) (x.1 == y.1) h in
-    rw (eqb-true _ _ both.0, eqb-true _ _ both.1) refl
-
-pub same_lists : (xs ys : List Conflict) → same_conflicts xs ys ≡ true → xs ≡ ys
-same_lists [] [] h = refl
-same_lists [] (y ∷ ys) h = cc
-same_lists (x ∷ xs) [] h = cc
-same_lists (x ∷ xs) (y ∷ ys) h =
-    let both = and_parts (same_conflict x y) (same_conflicts xs ys) h in
-    rw (same_pair x y both.0, same_lists xs ys both.1) refl
-
 untouched : (r : Seat) → IsApart (conflicts_of r) → AllZip StandsFor (started_of r).shadows (conflicts_of r) → map shadow_of r.waiters ≡ settled_shadows (Some (started_of r)) (conflicts_of r)
 untouched r apart fits =
     sym (settle_again (positions_in (Some (started_of r))) [] (started_of r).shadows (conflicts_of r) fits apart
@@ -196,22 +180,11 @@ renewed_numbers nodes items ws r apart fits =
     (λ e. untouched r apart fits ∙ ap (settled_shadows (Some (started_of r))) (same_lists _ _ e))
     (λ e. settled_numbers nodes items r ws apart)
 
-pub renewed_conflicts : (nodes : List Node) (items : ℕ) (ws : List Conflict) (r : Seat) → conflicts_of (renewed nodes items ws r) ≡ ws
-renewed_conflicts nodes items ws r =
-    cond_both {A = Seat} (same_conflicts (conflicts_of r) ws) r (settled_seat nodes items ws r) (λ x. conflicts_of x ≡ ws)
-    (λ e. same_lists _ _ e) (λ e. settled_conflicts nodes items r ws)
-
 pub renewed_stands : (p : Program) (d : Tables) (nodes : List Node) (items : ℕ) (ws : List Conflict) (r : Seat) → nodes ≡ nodes_of p → items ≡ length d → SeatStands p d r
     → SeatStands p d (renewed nodes items ws r)
 renewed_stands p d nodes items ws r code size h =
     cond_both {A = Seat} (same_conflicts (conflicts_of r) ws) r (settled_seat nodes items ws r) (SeatStands p d)
     (λ e. h) (λ e. settled_stands p d nodes items r ws code size h)
-
-pub renewed_number : (nodes : List Node) (items : ℕ) (ws : List Conflict) (r : Seat) → (renewed nodes items ws r).number ≡ r.number
-renewed_number nodes items ws r = cond_both {A = Seat} (same_conflicts (conflicts_of r) ws) r (settled_seat nodes items ws r) (λ x. x.number ≡ r.number) (λ e. refl) (λ e. refl)
-
-pub renewed_optimistic : (nodes : List Node) (items : ℕ) (ws : List Conflict) (r : Seat) → (renewed nodes items ws r).optimistic ≡ r.optimistic
-renewed_optimistic nodes items ws r = cond_both {A = Seat} (same_conflicts (conflicts_of r) ws) r (settled_seat nodes items ws r) (λ x. x.optimistic ≡ r.optimistic) (λ e. refl) (λ e. refl)
 
 -- in numbers it is settled
 pub renewed_started : (nodes : List Node) (items : ℕ) (ws : List Conflict) (r : Seat) → IsApart (conflicts_of r) → AllZip StandsFor (started_of r).shadows (conflicts_of r)
@@ -257,13 +230,3 @@ promoted_numbers nodes items cut r apart past =
     ap (λ o. started_of (promoted_by (from_found o) nodes items cut r)) heir_is
     ∙ promoted_heir nodes items cut r apart past (heir (survivors (Some cut) (map shadow_of r.waiters))) refl
     ∙ sym (rw past refl)
-
-same_self : (xs : List Conflict) → same_conflicts xs xs ≡ true
-same_self [] = refl
-same_self (x ∷ xs) = rw (eq-eqb x.0 x.0 refl, eq-eqb x.1 x.1 refl, same_self xs) refl
-
--- who has the shadows already stays
-pub renewed_same : (nodes : List Node) (items : ℕ) (ws : List Conflict) (r : Seat) → conflicts_of r ≡ ws → renewed nodes items ws r ≡ r
-renewed_same nodes items ws r e =
-    let same : same_conflicts (conflicts_of r) ws ≡ true = ap (same_conflicts (conflicts_of r)) (sym e) ∙ same_self (conflicts_of r) in
-    rw same refl

@@ -1,45 +1,14 @@
 -- What a step of an optimistic shadow changes of what is wanted.
-use Rattle.std.proofs.Common.{◌≡◌, ◌≢◌, ℕ, suc, ◌+◌, ◌<◌, ◌==◌, min, ℤ, Bool, true, false, List, [], ◌∷◌, ◌++◌, map, is_some, Option, Some, None, refl, ap, ap₂, sym, subst, ◌∙◌, arith, eq-eqb, true≢false, get_or-set_other}
+use Rattle.std.proofs.Common.{◌≡◌, ◌≢◌, ℕ, ◌==◌, ℤ, Bool, true, false, List, [], ◌∷◌, map, is_some, Option, Some, None, refl, ap, ap₂, sym, ◌∙◌, eq-eqb, true≢false, get_or-set_other}
 use Rattle.std.specs.Prelude.{if◌then◌else◌, slice_set}
 use Rattle.std.specs.List.{AllByRecursion}
-use Rattle.std.proofs.lemmas.Bool.{cases_Bool, cond_both}
-use Rattle.txn_runs.specs.Run.{Tables, Read, Writes, own, logged, stored, after}
-use Rattle.txn_runs.specs.Kind.{kind_of, Changes}
-use Rattle.txn_runs.specs.declared.kind.Kind.TheVariants.{Local, TableRead, Write}
-use Rattle.txn_runs.specs.declared.program.Program.{Program}
-use Rattle.txn_runs.proofs.Stepping.{after_changes}
-use Rattle.forest_model.specs.Runs.{reads, writes}
+use Rattle.std.proofs.lemmas.Bool.{cases_Bool}
+use Rattle.txn_runs.specs.Run.{Read, Writes, logged}
 use Rattle.forest_model.specs.Choose.{less_or}
 use Rattle.forest_model.specs.Point.{is_changed, point, wanted_of}
 use Rattle.forest_model.specs.Forest.{Started, Forest, reads_of, writes_of, conflict_at, against, wanted}
 use Rattle.forest_model.proofs.Lists.{either, filter_map-map, filter_map-agree, all-weaken}
-use Rattle.shadow_forest.specs.Parts.{point_with}
-
--- The point after one read more.
-
-less_small : (n m : ℕ) → n < m → min m n ≡ n
-less_small n m h = omega (arith, h)
-
-pub point_cons : (x : Read) (ws : Writes) (rs : List Read) → point (x ∷ rs) ws ≡ (if is_changed ws x then Some (less_or (point rs ws) x.0) else point rs ws)
-point_cons x ws rs = either (cases_Bool (is_changed ws x)) (λ e. rw e refl) (λ e. rw e refl)
-
-with_less : (item position : ℕ) (ws : Writes) (o : Option ℕ) (n : ℕ) → n < position → less_or (point_with (Some item) position ws o) n ≡ less_or o n
-with_less item position ws None n lt =
-    cond_both {A = Option ℕ} (is_some (own ws item)) (Some position) None (λ o. less_or o n ≡ n) (λ e. less_small n position lt) (λ e. refl)
-with_less item position ws (Some m) n lt = refl
-
--- a read behind all others gives the point where there was none, if its item was written
-pub point_push : (item position : ℕ) (v : _) (ws : Writes) (rs : List Read) → AllByRecursion (λ (r : Read). r.0 < position) rs → point (rs ++ (position, item, v) ∷ []) ws ≡ point_with (Some item) position ws (point rs ws)
-point_push item position v ws [] h =
-    point_cons (position, item, v) ws []
-point_push item position v ws (x ∷ rs) h =
-    point_cons x ws (rs ++ (position, item, v) ∷ [])
-    ∙ ap (λ o. if is_changed ws x then Some (less_or o x.0) else o) (point_push item position v ws rs h.1)
-    ∙ cond_both {A = Option ℕ} (is_changed ws x) (Some (less_or (point_with (Some item) position ws (point rs ws)) x.0)) (point_with (Some item) position ws (point rs ws))
-    (λ o. o ≡ point_with (Some item) position ws (if is_changed ws x then Some (less_or (point rs ws) x.0) else point rs ws))
-    (λ e. rw e (ap Some (with_less item position ws (point rs ws) x.0 h.0)))
-    (λ e. rw e refl)
-    ∙ sym (ap (point_with (Some item) position ws) (point_cons x ws rs))
+use Rattle.indexed_lanes.proofs.Reading.{point_cons}
 
 -- The point after one write more.
 

@@ -20,7 +20,7 @@ use Rattle.forest_model.proofs.RunLaws.{going-below_length}
 use Rattle.txn_runs.specs.declared.program.Program.{Program}
 use Rattle.txn_code.specs.declared.node.Node.{Node}
 use Rattle.txn_code.specs.Nodes.{nodes_of}
-use Rattle.txn_interp.specs.State.{Held, Runs, RunsOver}
+use Rattle.txn_interp.specs.State.{Held, RunsOver}
 use Rattle.journal_core.specs.Recorded.{Recorded}
 use Rattle.journal_core.specs.Journal.{program_of}
 use Rattle.forest_model.specs.Point.{Conflict}

@@ -7,11 +7,12 @@ use Rattle.journal_core.specs.Recorded.{Recorded}
 use Rattle.journal_core.specs.Journal.{program_of}
 use Rattle.forest_model.specs.Point.{wanted_of}
 use Rattle.forest_model.specs.Forest.{Forest, against, wanted}
-use Rattle.forest_model.proofs.Lists.{filter_map-map, filter_map-agree, all-weaken}
+use Rattle.forest_model.proofs.Lists.{filter_map-map, filter_map-agree, all-weaken, all-both}
 use Rattle.shadow_state.specs.Bank.{Slot}
-use Rattle.shadow_lanes.specs.Seats.{Seat, Seated, started_of}
-use Rattle.shadow_forest.specs.Parts.{conflict_between, wanted_among}
-use Rattle.shadow_forest.specs.Kept.{forest_of, SlotStands, SeatStands, AllStand}
+use Rattle.shadow_lanes.specs.Seats.{Seat, Seated, conflicts_of, started_of}
+use Rattle.shadow_forest.specs.declared.txn.Txn.{Txn}
+use Rattle.indexed_lanes.specs.Wanted.{conflict_between, wanted_among, AreWanted}
+use Rattle.shadow_forest.specs.Kept.{forest_of, SlotStands, SeatStands, AllStand, IsForest}
 
 -- a state's log and writes are those of the run
 pub reads_are : (p : Program) (d : Tables) (s : Slot) → SlotStands p d s → (after p d s.state.position).reads ≡ s.state.log.reads
@@ -42,3 +43,9 @@ wanted_are journal d s r all of_r =
     ∙ filter_map-agree (λ u. against f (started_of r) (started_of u)) (conflict_between None r) s.seats
     (all-weaken (λ (u : Seat). SeatStands (program_of journal.entries u.number) d u) (λ u. against f (started_of r) (started_of u) ≡ conflict_between None r u)
     (λ u of_u. sym (between f r u of_r of_u.optimistic)) s.seats all)))
+
+-- each has noted what it wants of the seats
+pub noted_seats : (journal : Recorded) (d : Tables) (kept : List Txn) (queue : List ℕ) (s : Seated) → IsForest journal d kept queue s → AreWanted s
+noted_seats journal d kept queue s h =
+    all-both (λ (x : Seat). SeatStands (program_of journal.entries x.number) d x) (λ (x : Seat). conflicts_of x ≡ wanted (forest_of journal d s) (started_of x)) (λ (x : Seat). conflicts_of x ≡ wanted_among s.most None s.seats x)
+    (λ x stands noted. noted ∙ sym (wanted_are journal d s x h.stand stands.optimistic)) s.seats h.stand h.noted

@@ -1,52 +1,18 @@
 -- What the forest's code makes of the started transactions and their states.
-use Rattle.std.specs.Prelude.{ℕ, zero, suc, ◌-◌, Bool, true, false, not, ◌&&◌, ◌||◌, ◌==◌, nat_lt, if◌then◌else◌, List, [], ◌∷◌, map, filter, filter_map, flat_map, slice_get, is_some, Option, None, Some}
-use Rattle.std.specs.List.{list_any}
-use Rattle.txn_runs.specs.Run.{Writes, own, logged}
+use Rattle.std.specs.Prelude.{ℕ, zero, suc, ◌-◌, Bool, false, not, ◌&&◌, ◌||◌, ◌==◌, nat_lt, if◌then◌else◌, List, [], ◌∷◌, map, filter, flat_map, slice_get, is_some, Option, None, Some}
+use Rattle.txn_runs.specs.Run.{logged}
 use Rattle.txn_code.specs.declared.node.Node.{Node}
 use Rattle.block_rule.specs.declared.role.Role.{Role}
 use Rattle.block_rule.specs.declared.role.Role.TheVariants.{Optimistic, Guard}
 use Rattle.block_rule.specs.declared.role.Row.{Row}
 use Rattle.block_rule.specs.Standing.{standing}
 use Rattle.forest_model.specs.Choose.{first_by}
-use Rattle.forest_model.specs.Point.{Conflict, point, wanted_of}
-use Rattle.forest_model.specs.Forest.{conflict_at}
-use Rattle.shadow_lanes.specs.Seats.{Seat, Waiter, conflicts_of, settled_seat, promoted_seat, seats_with}
+use Rattle.forest_model.specs.Point.{Conflict, point}
+use Rattle.shadow_lanes.specs.Seats.{Seat, Waiter, promoted_seat, seats_with}
+use Rattle.indexed_lanes.specs.Wanted.{wanted_among, renewed}
 use Rattle.shadow_forest.specs.declared.txn.Txn.{Txn}
 
--- Conflicts.
-
--- the point of a reader that is about to read an item, or isn't: its point so far, or else the position of that read
-abbrev pub point_with : Option ℕ → ℕ → Writes → Option ℕ → Option ℕ
-point_with None position ws p = p
-point_with (Some item) position ws (Some p) = Some p
-point_with (Some item) position ws None = if is_some (own ws item) then Some position else None
-
--- the conflict of r, which is about to read an item or isn't, with u
-abbrev pub conflict_between : Option ℕ → Seat → Seat → Option Conflict
-conflict_between next r u =
-    if u.number == r.number then None
-    else conflict_at u.number (point_with next r.optimistic.state.position u.optimistic.state.writes (point r.optimistic.state.log.reads u.optimistic.state.writes))
-
--- the conflicts against which r wants a shadow
-abbrev pub wanted_among : ℕ → Option ℕ → List Seat → Seat → List Conflict
-wanted_among k next seats r = wanted_of (filter_map (conflict_between next r) seats) k
-
--- Settling.
-
--- the same guard and point
-abbrev pub same_conflict : Conflict → Conflict → Bool
-same_conflict x y = x.0 == y.0 && x.1 == y.1
-
--- the same conflicts in the same order
-abbrev pub same_conflicts : List Conflict → List Conflict → Bool
-same_conflicts [] [] = true
-same_conflicts [] (y ∷ ys) = false
-same_conflicts (x ∷ xs) [] = false
-same_conflicts (x ∷ xs) (y ∷ ys) = same_conflict x y && same_conflicts xs ys
-
--- r with the shadows for these conflicts; it stays as it is where it has them
-abbrev pub renewed : List Node → ℕ → List Conflict → Seat → Seat
-renewed nodes items ws r = if same_conflicts (conflicts_of r) ws then r else settled_seat nodes items ws r
+-- Transactions that are kept.
 
 -- the nodes of a transaction that is there
 abbrev pub nodes_in : Option Txn → List Node
@@ -70,37 +36,19 @@ deadline_in (Some x) = x.deadline
 abbrev pub deadline_at : List Txn → ℕ → ℕ
 deadline_at txns t = deadline_in (slice_get txns (t - 1))
 
+-- Settling.
+
 -- r with the shadows that it wants among these
 abbrev pub renewed_among : ℕ → ℕ → List Txn → List Seat → Seat → Seat
 renewed_among k items txns seats r = renewed (nodes_at txns r.number) items (wanted_among k None seats r) r
 
--- t is u, which ended, or one of those that it took back
-abbrev pub is_touched : ℕ → List (ℕ × ℕ) → ℕ → Bool
-is_touched u back t = list_any (λ (x : ℕ × ℕ). x.0 == t) back || t == u
-
--- r is touched, or waits for one that is
-abbrev pub is_around : ℕ → List (ℕ × ℕ) → Seat → Bool
-is_around u back r = is_touched u back r.number || list_any (λ (w : Conflict). is_touched u back w.0) (conflicts_of r)
-
--- r after u's end: with the shadows that it wants among these, if it is touched, or waits for one that is
-abbrev pub renewed_if_around : ℕ → ℕ → List Txn → ℕ → List (ℕ × ℕ) → List Seat → Seat → Seat
-renewed_if_around k items txns u back seats r = if is_around u back r then renewed_among k items txns seats r else r
-
--- all after u's end
-abbrev pub around_renewed : ℕ → ℕ → List Txn → ℕ → List (ℕ × ℕ) → List Seat → List Seat
-around_renewed k items txns u back seats = map (renewed_if_around k items txns u back seats) seats
+-- each with the shadows that it wants among all
+abbrev pub all_renewed : ℕ → ℕ → List Txn → List Seat → List Seat
+all_renewed k items txns seats = map (renewed_among k items txns seats) seats
 
 -- r has read the item of the tables
 abbrev pub has_read : ℕ → Seat → Bool
 has_read item r = is_some (logged r.optimistic.state.log.reads item)
-
--- r after t's write of the item: with the shadows that it wants among these, if it is another one that has read the item
-abbrev pub reader_renewed : ℕ → ℕ → List Txn → ℕ → ℕ → List Seat → Seat → Seat
-reader_renewed k items txns t item seats r = if not (r.number == t) && has_read item r then renewed_among k items txns seats r else r
-
--- all after t's write of the item
-abbrev pub readers_renewed : ℕ → ℕ → List Txn → ℕ → ℕ → List Seat → List Seat
-readers_renewed k items txns t item seats = map (reader_renewed k items txns t item seats) seats
 
 -- After a commit.
 

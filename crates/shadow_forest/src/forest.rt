@@ -35,7 +35,7 @@ use crate::giving::slot_out;
 use crate::picking::{pick, role_at};
 use crate::priority::first_ended;
 use crate::rooms::{free_room, take_room};
-use crate::settling::{renew, renew_around, renew_readers, wanted_at};
+use crate::settling::renew_marked;
 use crate::txn::{Txn, code_of, deadline_of, free_code};
 use block_rule::{Role, Row, Standing, status};
 use forest_model::Did;
@@ -617,13 +617,12 @@ impl Forest {
             Kind::Ended => return Stepped::Ended,
             Kind::Local => self.lanes.step(place, 0, code, &self.tables, steps),
             Kind::TableRead { item } => {
-                let conflicts = wanted_at(&self.lanes, place, Some(item));
-                renew(&mut self.lanes, place, conflicts.as_slice(), code);
-                self.lanes.step(place, 0, code, &self.tables, steps)
+                self.lanes.read(place, item, code, &self.tables, steps);
+                self.lanes.settled()
             }
-            Kind::Write { item, .. } => {
+            Kind::Write { .. } => {
                 self.lanes.step(place, 0, code, &self.tables, steps);
-                renew_readers(&mut self.lanes, &self.txns, txn, item)
+                renew_marked(&mut self.lanes, &self.txns)
             }
         }
         Stepped::Stepped { position }
@@ -676,7 +675,7 @@ impl Forest {
             .push_reserved(Entry::Committed { txn, outcome });
         self.lanes.remove(txn);
         self.starts = start_waiting(&mut self.lanes, &mut self.waiting, &self.txns);
-        renew_around(&mut self.lanes, &self.txns, txn, &self.resumed);
+        renew_marked(&mut self.lanes, &self.txns);
         free_code(&mut self.txns, txn, self.alloc);
     }
 
@@ -692,7 +691,7 @@ impl Forest {
         self.lanes.remove(txn);
         self.waiting.remove(txn, deadline_of(&self.txns, txn));
         self.starts = start_waiting(&mut self.lanes, &mut self.waiting, &self.txns);
-        renew_around(&mut self.lanes, &self.txns, txn, &self.resumed);
+        renew_marked(&mut self.lanes, &self.txns);
         free_code(&mut self.txns, txn, self.alloc);
     }
 }

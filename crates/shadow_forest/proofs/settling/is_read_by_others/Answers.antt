@@ -6,7 +6,8 @@ use Rattle.std.proofs.lemmas.List.{take_all}
 use Rattle.forest_model.proofs.Lists.{all-append}
 use Rattle.shadow_lanes.specs.Seats.{Seat}
 use Rattle.shadow_forest.specs.Parts.{has_read}
-use Rattle.shadow_forest.proofs.Places.{slice_get-some, take_more-at}
+use Rattle.shadow_forest.proofs.Places.{slice_get-some}
+use Rattle.indexed_lanes.proofs.Passing.{take_more-at}
 use Rattle.shadow_forest.proofs.settling.is_read_by_others.Goals as goal
 
 pub returns-then-is_reader : goal.returns-then-is_reader

@@ -14,22 +14,21 @@ use Rattle.forest_model.specs.Events.{resumed, laid, committed}
 use Rattle.shadow_lanes.specs.Seats.{started_of}
 use Rattle.shadow_forest.specs.View.{View, told_commit}
 use Rattle.shadow_forest.specs.Answers.{resumed_pair}
-use Rattle.shadow_forest.specs.Parts.{seat_after, taken_back, next_of, seats_with_some, around_renewed}
+use Rattle.shadow_forest.specs.Parts.{seat_after, taken_back, next_of, seats_with_some, all_renewed}
 use Rattle.shadow_forest.specs.Kept.{numbers_waiting, AreQueued, forest_of}
 use Rattle.txn_interp.specs.State.{Held}
 use Rattle.shadow_forest.proofs.CutForest.{whole_done, whole_room}
 use Rattle.shadow_forest.proofs.RenewedForest.{unsettled_carried}
-use Rattle.shadow_forest.proofs.Around.{IsAfterEnd, around_is_all}
 use Rattle.shadow_forest.proofs.Starting.{IsUnstarted, IsFilled, queue_carried, queue_apart, next_is, filled_keeps}
 use Rattle.shadow_forest.proofs.Refilling.{IsRefilled, refilled_keeps, refilled_forest, refilled_lanes}
 use Rattle.shadow_forest.proofs.RoomLaws.{room_there, rooms_committed, emits_fit}
 use Rattle.shadow_forest.proofs.Freed.{freed-forest, freed-queued}
 use Rattle.shadow_forest.proofs.SeatPlaces.{state-at}
 use Rattle.shadow_forest.proofs.Placing.{all_carried}
-use Rattle.shadow_forest.proofs.Finishing.{IsEndAt, end_at, outcome_from, IsCutStep, done_step, undone_step, IsWritten, after_end, written_forest, written_keeps, written_back, written_settles, written_lanes, told_view, same_ending}
+use Rattle.shadow_forest.proofs.Finishing.{IsEndAt, end_at, outcome_from, IsCutStep, done_step, undone_step, IsWritten, written_forest, written_keeps, written_back, written_settles, written_lanes, told_view, same_ending}
 use Rattle.shadow_forest.specs.declared.forest.Forest.TheInside.{Inside}
 use Rattle.shadow_forest.proofs.forest.Forest.finish.Goals as goal
-use Rattle.shadow_forest.proofs.forest.Forest.finish.Goals.{then-is_done, else-is_done, After-self, After-state-state, After-deref-2, After-deref-3, After-renew_around}
+use Rattle.shadow_forest.proofs.forest.Forest.finish.Goals.{then-is_done, else-is_done, After-self, After-state-state, After-deref-2, After-deref-3, After-renew_marked}
 
 -- the transaction that is committed
 ending : (c : After-self) → IsEndAt c.self.inside.journal c.self.inside.tables c.self.inside.lanes c.args.place c.args.txn
@@ -209,33 +208,28 @@ filled c =
       queue_is = w.ensures.waiting;
     }
 
-pub renew_around-requires : goal.renew_around-requires
-renew_around-requires c =
+pub renew_marked-requires : goal.renew_marked-requires
+renew_marked-requires c =
     let x = c.if-is_done.self-inside in
     let j = c.push_reserved.new.self in
     let left = c.remove.new.self in
     let before = map started_of left.seats in
     let w = c.start_waiting-self-inside in
-    let e = ending (goal.at.renew_around-requires c).After-self in
-    let st = state_is (goal.at.renew_around-requires c).After-state-state e in
+    let e = ending (goal.at.renew_marked-requires c).After-self in
+    let st = state_is (goal.at.renew_marked-requires c).After-state-state e in
     rw c.deref-3.ensures.value
     (unsettled_carried j x.tables x.txns.items (numbers_waiting w.new.waiting) w.new.lanes before
-    (filled_keeps j x.tables x.txns.items (numbers_waiting x.waiting) left before w.result (numbers_waiting w.new.waiting) w.new.lanes (unstarted (goal.at.renew_around-requires c).After-deref-2 e st) (filled (goal.at.renew_around-requires c).After-deref-3)))
+    (filled_keeps j x.tables x.txns.items (numbers_waiting x.waiting) left before w.result (numbers_waiting w.new.waiting) w.new.lanes (unstarted (goal.at.renew_marked-requires c).After-deref-2 e st) (filled (goal.at.renew_marked-requires c).After-deref-3)))
 
 -- and all were renewed
-refilled : (c : After-renew_around) → IsAfterEnd c.args.txn (map resumed_pair c.if-is_done.self-inside.resumed.items) c.if-is_done.self-inside.txns.items c.self.inside.lanes c.start_waiting-self-inside.new.lanes
-    → IsFilled c.if-is_done.self-inside.txns.items (numbers_waiting c.if-is_done.self-inside.waiting) c.remove.new.self c.start_waiting-self-inside.result (numbers_waiting c.start_waiting-self-inside.new.waiting) c.start_waiting-self-inside.new.lanes
-    → IsRefilled c.if-is_done.self-inside.txns.items (numbers_waiting c.if-is_done.self-inside.waiting) c.remove.new.self c.start_waiting-self-inside.result (numbers_waiting c.start_waiting-self-inside.new.waiting) c.start_waiting-self-inside.new.lanes c.renew_around.new.lanes
-refilled c after fill =
-    let x = c.if-is_done.self-inside in
+refilled : (c : After-renew_marked) → IsFilled c.if-is_done.self-inside.txns.items (numbers_waiting c.if-is_done.self-inside.waiting) c.remove.new.self c.start_waiting-self-inside.result (numbers_waiting c.start_waiting-self-inside.new.waiting) c.start_waiting-self-inside.new.lanes
+    → IsRefilled c.if-is_done.self-inside.txns.items (numbers_waiting c.if-is_done.self-inside.waiting) c.remove.new.self c.start_waiting-self-inside.result (numbers_waiting c.start_waiting-self-inside.new.waiting) c.start_waiting-self-inside.new.lanes c.renew_marked.new.lanes
+refilled c fill =
     let lanes = c.start_waiting-self-inside.new.lanes in
     record {
       filled = fill;
       renewed_are =
-          c.renew_around.ensures
-          ∙ ap (λ kept. record lanes { seats = around_renewed lanes.most lanes.items kept c.args.txn (map resumed_pair c.deref-4.result.now) lanes.seats }) c.deref-3.ensures.value
-          ∙ ap (λ back. record lanes { seats = around_renewed lanes.most lanes.items x.txns.items c.args.txn (map resumed_pair back) lanes.seats }) c.deref-4.ensures.value
-          ∙ ap (λ seats. record lanes { seats = seats }) (around_is_all c.args.txn (map resumed_pair x.resumed.items) x.txns.items c.self.inside.lanes lanes after);
+          c.renew_marked.ensures ∙ ap (λ kept. record lanes { seats = all_renewed lanes.most lanes.items kept lanes.seats }) c.deref-3.ensures.value;
     }
 
 -- its code is there
@@ -264,17 +258,17 @@ invariant_of-self c =
     let a = (goal.at.invariant_of-self c).After-deref-2 in
     let u = unstarted a e st in
     let fill = filled (goal.at.invariant_of-self c).After-deref-3 in
-    let re = refilled (goal.at.invariant_of-self c).After-renew_around (after_end i.journal i.tables i.txns.items (numbers_waiting i.waiting) i.lanes c.args.place c.args.txn c.self.invariant.0 e x.tables x.lanes (map resumed_pair x.resumed.items) (cut_step a e st) j left (written a e st) x.txns.items w.result w.new.lanes fill.seats_are) fill in
-    let lanes : c.renew_around.new.lanes.lanes ≡ i.lanes.lanes =
-    refilled_lanes j x.tables x.txns.items (numbers_waiting x.waiting) left before w.result (numbers_waiting w.new.waiting) w.new.lanes c.renew_around.new.lanes u re
+    let re = refilled (goal.at.invariant_of-self c).After-renew_marked fill in
+    let lanes : c.renew_marked.new.lanes.lanes ≡ i.lanes.lanes =
+    refilled_lanes j x.tables x.txns.items (numbers_waiting x.waiting) left before w.result (numbers_waiting w.new.waiting) w.new.lanes c.renew_marked.new.lanes u re
     ∙ written_lanes i.journal i.tables i.txns.items (numbers_waiting i.waiting) i.lanes c.args.place c.args.txn c.self.invariant.0 e x.tables x.lanes (map resumed_pair x.resumed.items) (cut_step a e st) j left (written a e st)
     in
-    let kept = refilled_keeps j x.tables x.txns.items (numbers_waiting x.waiting) left before w.result (numbers_waiting w.new.waiting) w.new.lanes c.renew_around.new.lanes u re in
+    let kept = refilled_keeps j x.tables x.txns.items (numbers_waiting x.waiting) left before w.result (numbers_waiting w.new.waiting) w.new.lanes c.renew_marked.new.lanes u re in
     let some = (there (goal.at.invariant_of-self c).After-self).0 in
     let gone_now : is_live j.entries c.args.txn ≡ false =
     subst (λ es. is_live es c.args.txn ≡ false) (sym c.push_reserved.ensures.entries) (live-ended x.journal.entries (Committed c.args.txn c.outcome-outcome.result) c.args.txn (eq-eqb c.args.txn c.args.txn refl))
     in (
-      rw c.free_code.ensures (freed-forest j x.tables x.txns.items (numbers_waiting w.new.waiting) c.renew_around.new.lanes c.args.txn (counts j.opening j.entries kept.sound.right.legal) some gone_now kept),
+      rw c.free_code.ensures (freed-forest j x.tables x.txns.items (numbers_waiting w.new.waiting) c.renew_marked.new.lanes c.args.txn (counts j.opening j.entries kept.sound.right.legal) some gone_now kept),
       rw (lanes, same_room a) c.self.invariant.1,
       rw c.free_code.ensures (freed-queued (c.args.txn - 1) x.txns.items w.new.waiting (subst (λ xs. AreQueued xs w.new.waiting) c.deref-2.ensures.value w.ensures.queued)),
       rw (c.push_reserved.ensures.entries, same_journal a, same_rooms a)
@@ -299,9 +293,9 @@ returns c = λ r found.
     let same : started_of e.seat ≡ r = same_ending i.journal i.tables i.lanes c.args.place c.args.txn e r (ap (λ (y : Forest). find_started y.started c.args.txn) v ∙ found) in
     let step = cut_step a e st in
     let is = written a e st in
-    let re = refilled (goal.at.returns c).After-renew_around (after_end i.journal i.tables i.txns.items (numbers_waiting i.waiting) i.lanes c.args.place c.args.txn c.self.invariant.0 e x.tables x.lanes (map resumed_pair x.resumed.items) step j left is x.txns.items w.result w.new.lanes fill.seats_are) fill in
-    let now : forest_of j x.tables c.renew_around.new.lanes ≡ committed f r =
-    refilled_forest j x.tables x.txns.items (numbers_waiting x.waiting) left before w.result (numbers_waiting w.new.waiting) w.new.lanes c.renew_around.new.lanes u re
+    let re = refilled (goal.at.returns c).After-renew_marked fill in
+    let now : forest_of j x.tables c.renew_marked.new.lanes ≡ committed f r =
+    refilled_forest j x.tables x.txns.items (numbers_waiting x.waiting) left before w.result (numbers_waiting w.new.waiting) w.new.lanes c.renew_marked.new.lanes u re
     ∙ written_settles i.journal i.tables i.txns.items (numbers_waiting i.waiting) i.lanes c.args.place c.args.txn c.self.invariant.0 e x.tables x.lanes (map resumed_pair x.resumed.items) step j left is
     ∙ ap (committed f) same
     in

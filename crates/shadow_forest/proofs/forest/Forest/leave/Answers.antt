@@ -8,11 +8,9 @@ use Rattle.forest_model.specs.Events.{gone, withdrawn}
 use Rattle.shadow_lanes.specs.Seats.{Seated, seats_without, started_of}
 use Rattle.shadow_forest.specs.View.{View, withdraw_view}
 use Rattle.shadow_forest.specs.Answers.{resumed_pair}
-use Rattle.shadow_forest.specs.Parts.{deadline_at, next_of, seats_with_some, around_renewed}
+use Rattle.shadow_forest.specs.Parts.{deadline_at, next_of, seats_with_some, all_renewed}
 use Rattle.shadow_forest.specs.Kept.{numbers_waiting, AreQueued, forest_of}
-use Rattle.shadow_forest.proofs.RenewedForest.{map_same, unsettled_carried}
-use Rattle.shadow_forest.proofs.Around.{IsAfterEnd, around_is_all}
-use Rattle.shadow_forest.proofs.EndedSeats.{noted_seats, same_each}
+use Rattle.shadow_forest.proofs.RenewedForest.{unsettled_carried}
 use Rattle.shadow_forest.proofs.Starting.{IsUnstarted, IsFilled, queue_carried, queue_apart, next_is, filled_keeps}
 use Rattle.shadow_forest.proofs.Refilling.{IsRefilled, refilled_keeps, refilled_forest, refilled_lanes}
 use Rattle.journal_core.proofs.Legal.{counts, live-ended}
@@ -23,7 +21,7 @@ use Rattle.shadow_forest.proofs.BeginningEntry.{is_pushed}
 use Rattle.shadow_forest.proofs.RoomLaws.{room_there, rooms_withdrawn}
 use Rattle.shadow_forest.proofs.Leaving.{left_keeps, left_forest, withdraw_view_is}
 use Rattle.shadow_forest.proofs.forest.Forest.leave.Goals as goal
-use Rattle.shadow_forest.proofs.forest.Forest.leave.Goals.{After-self, After-deref-2, After-deref-3, After-renew_around}
+use Rattle.shadow_forest.proofs.forest.Forest.leave.Goals.{After-self, After-deref-2, After-deref-3, After-renew_marked}
 
 -- the queue without the one that leaves
 retained : (c : After-deref-2) → numbers_waiting c.remove-2.new.self ≡ filter (λ u. not (u == c.args.txn)) (numbers_waiting c.self.inside.waiting)
@@ -94,48 +92,29 @@ filled c = record {
   queue_is = c.start_waiting-self-inside.ensures.waiting;
 }
 
-pub renew_around-requires : goal.renew_around-requires
-renew_around-requires c =
+pub renew_marked-requires : goal.renew_marked-requires
+renew_marked-requires c =
     let i = c.self.inside in
     let j = c.push_reserved.new.self in
     let before = map started_of i.lanes.seats in
     let w = c.start_waiting-self-inside in
     rw c.deref-3.ensures.value
     (unsettled_carried j i.tables i.txns.items (numbers_waiting w.new.waiting) w.new.lanes before
-    (filled_keeps j i.tables i.txns.items (numbers_waiting c.remove-2.new.self) c.remove.new.self before w.result (numbers_waiting w.new.waiting) w.new.lanes (unstarted (goal.at.renew_around-requires c).After-deref-2) (filled (goal.at.renew_around-requires c).After-deref-3)))
+    (filled_keeps j i.tables i.txns.items (numbers_waiting c.remove-2.new.self) c.remove.new.self before w.result (numbers_waiting w.new.waiting) w.new.lanes (unstarted (goal.at.renew_marked-requires c).After-deref-2) (filled (goal.at.renew_marked-requires c).After-deref-3)))
 
 -- nobody was taken back
-none_back : (c : After-renew_around) → map resumed_pair c.clear.new.self.items ≡ []
+none_back : (c : After-renew_marked) → map resumed_pair c.clear.new.self.items ≡ []
 none_back c = ap (map resumed_pair) c.clear.ensures.items
 
-after : (c : After-renew_around) → IsFilled c.self.inside.txns.items (numbers_waiting c.remove-2.new.self) c.remove.new.self c.start_waiting-self-inside.result (numbers_waiting c.start_waiting-self-inside.new.waiting) c.start_waiting-self-inside.new.lanes
-    → IsAfterEnd c.args.txn (map resumed_pair c.clear.new.self.items) c.self.inside.txns.items c.self.inside.lanes c.start_waiting-self-inside.new.lanes
-after c fill =
-    let i = c.self.inside in
-    let w = c.start_waiting-self-inside in
-    record {
-      change = λ x. x;
-      each = same_each c.args.txn (map resumed_pair c.clear.new.self.items) i.lanes.most i.lanes.seats (noted_seats i.journal i.tables i.txns.items (numbers_waiting i.waiting) i.lanes c.self.invariant.0);
-      who = w.result;
-      seats_are =
-          fill.seats_are
-          ∙ ap (λ (x : Seated). record x { seats = seats_with_some i.txns.items x.items w.result x.seats }) c.remove.ensures
-          ∙ ap (λ seats. record i.lanes { seats = seats_with_some i.txns.items i.lanes.items w.result (seats_without c.args.txn seats) }) (sym (map_same i.lanes.seats));
-    }
-
 -- and all were renewed
-refilled : (c : After-renew_around) → IsFilled c.self.inside.txns.items (numbers_waiting c.remove-2.new.self) c.remove.new.self c.start_waiting-self-inside.result (numbers_waiting c.start_waiting-self-inside.new.waiting) c.start_waiting-self-inside.new.lanes
-    → IsRefilled c.self.inside.txns.items (numbers_waiting c.remove-2.new.self) c.remove.new.self c.start_waiting-self-inside.result (numbers_waiting c.start_waiting-self-inside.new.waiting) c.start_waiting-self-inside.new.lanes c.renew_around.new.lanes
+refilled : (c : After-renew_marked) → IsFilled c.self.inside.txns.items (numbers_waiting c.remove-2.new.self) c.remove.new.self c.start_waiting-self-inside.result (numbers_waiting c.start_waiting-self-inside.new.waiting) c.start_waiting-self-inside.new.lanes
+    → IsRefilled c.self.inside.txns.items (numbers_waiting c.remove-2.new.self) c.remove.new.self c.start_waiting-self-inside.result (numbers_waiting c.start_waiting-self-inside.new.waiting) c.start_waiting-self-inside.new.lanes c.renew_marked.new.lanes
 refilled c fill =
-    let i = c.self.inside in
     let lanes = c.start_waiting-self-inside.new.lanes in
     record {
       filled = fill;
       renewed_are =
-          c.renew_around.ensures
-          ∙ ap (λ kept. record lanes { seats = around_renewed lanes.most lanes.items kept c.args.txn (map resumed_pair c.deref-4.result.now) lanes.seats }) c.deref-3.ensures.value
-          ∙ ap (λ back. record lanes { seats = around_renewed lanes.most lanes.items i.txns.items c.args.txn (map resumed_pair back) lanes.seats }) c.deref-4.ensures.value
-          ∙ ap (λ seats. record lanes { seats = seats }) (around_is_all c.args.txn (map resumed_pair c.clear.new.self.items) i.txns.items i.lanes lanes (after c fill));
+          c.renew_marked.ensures ∙ ap (λ kept. record lanes { seats = all_renewed lanes.most lanes.items kept lanes.seats }) c.deref-3.ensures.value;
     }
 
 -- its code is there
@@ -156,15 +135,15 @@ invariant_of-self c =
     let j = c.push_reserved.new.self in
     let before = map started_of i.lanes.seats in
     let w = c.start_waiting-self-inside in
-    let re = refilled (goal.at.invariant_of-self c).After-renew_around (filled (goal.at.invariant_of-self c).After-deref-3) in
+    let re = refilled (goal.at.invariant_of-self c).After-renew_marked (filled (goal.at.invariant_of-self c).After-deref-3) in
     let u = unstarted (goal.at.invariant_of-self c).After-deref-2 in
-    let lanes : c.renew_around.new.lanes.lanes ≡ i.lanes.lanes =
-    refilled_lanes j i.tables i.txns.items (numbers_waiting c.remove-2.new.self) c.remove.new.self before w.result (numbers_waiting w.new.waiting) w.new.lanes c.renew_around.new.lanes u re ∙ ap (λ (x : Seated). x.lanes) c.remove.ensures
+    let lanes : c.renew_marked.new.lanes.lanes ≡ i.lanes.lanes =
+    refilled_lanes j i.tables i.txns.items (numbers_waiting c.remove-2.new.self) c.remove.new.self before w.result (numbers_waiting w.new.waiting) w.new.lanes c.renew_marked.new.lanes u re ∙ ap (λ (x : Seated). x.lanes) c.remove.ensures
     in
-    let kept = refilled_keeps j i.tables i.txns.items (numbers_waiting c.remove-2.new.self) c.remove.new.self before w.result (numbers_waiting w.new.waiting) w.new.lanes c.renew_around.new.lanes u re in
+    let kept = refilled_keeps j i.tables i.txns.items (numbers_waiting c.remove-2.new.self) c.remove.new.self before w.result (numbers_waiting w.new.waiting) w.new.lanes c.renew_marked.new.lanes u re in
     let some = (there (goal.at.invariant_of-self c).After-self).0 in
     let gone_now : is_live j.entries c.args.txn ≡ false = subst (λ es. is_live es c.args.txn ≡ false) (sym c.push_reserved.ensures.entries) (live-ended i.journal.entries (Withdrawn c.args.txn) c.args.txn (eq-eqb c.args.txn c.args.txn refl)) in (
-      rw c.free_code.ensures (freed-forest j i.tables i.txns.items (numbers_waiting w.new.waiting) c.renew_around.new.lanes c.args.txn (counts j.opening j.entries kept.sound.right.legal) some gone_now kept),
+      rw c.free_code.ensures (freed-forest j i.tables i.txns.items (numbers_waiting w.new.waiting) c.renew_marked.new.lanes c.args.txn (counts j.opening j.entries kept.sound.right.legal) some gone_now kept),
       rw (lanes, c.clear.ensures.capacity) c.self.invariant.1,
       rw c.free_code.ensures (freed-queued (c.args.txn - 1) i.txns.items w.new.waiting (subst (λ xs. AreQueued xs w.new.waiting) c.deref-2.ensures.value w.ensures.queued)),
       rw (c.push_reserved.ensures.entries, c.free_room.ensures)
@@ -180,7 +159,7 @@ returns c =
     let before = map started_of i.lanes.seats in
     let w = c.start_waiting-self-inside in
     let fill = filled (goal.at.returns c).After-deref-3 in
-    let re = refilled (goal.at.returns c).After-renew_around fill in
+    let re = refilled (goal.at.returns c).After-renew_marked fill in
     let a = (goal.at.returns c).After-deref-2 in
     let u = unstarted a in
     let gone_is : forest_of j i.tables c.remove.new.self ≡ gone f t =
@@ -188,11 +167,11 @@ returns c =
     ∙ ap (λ x. forest_of x i.tables (record i.lanes { seats = seats_without t i.lanes.seats })) (is_pushed i.journal j (Withdrawn t) c.push_reserved.ensures.opening c.push_reserved.ensures.entries)
     ∙ left_forest i.journal i.tables i.txns.items (numbers_waiting i.waiting) i.lanes t j.spare c.self.invariant.0 (live_inside a) (open_inside a) c.push_reserved.ensures.room
     in
-    let now : forest_of j i.tables c.renew_around.new.lanes ≡ withdrawn f t =
-    refilled_forest j i.tables i.txns.items (numbers_waiting c.remove-2.new.self) c.remove.new.self before w.result (numbers_waiting w.new.waiting) w.new.lanes c.renew_around.new.lanes u re ∙ ap (λ g. settle before (start_waiting g)) gone_is
+    let now : forest_of j i.tables c.renew_marked.new.lanes ≡ withdrawn f t =
+    refilled_forest j i.tables i.txns.items (numbers_waiting c.remove-2.new.self) c.remove.new.self before w.result (numbers_waiting w.new.waiting) w.new.lanes c.renew_marked.new.lanes u re ∙ ap (λ g. settle before (start_waiting g)) gone_is
     in
     let who : w.result ≡ next_to_start (gone f t) = fill.next ∙ next_is j i.tables i.txns.items (numbers_waiting c.remove-2.new.self) c.remove.new.self before u ∙ ap next_to_start gone_is in
-    let told : map resumed_pair c.clear.new.self.items ≡ [] = none_back (goal.at.returns c).After-renew_around in
+    let told : map resumed_pair c.clear.new.self.items ≡ [] = none_back (goal.at.returns c).After-renew_marked in
     let view : withdraw_view c.args.self.now t ≡ record { numbers = withdrawn f t; resumed = []; starts = next_to_start (gone f t) } =
     withdraw_view_is c.args.self.now t c.requires.live c.requires.open ∙ ap (λ (v : View). record { numbers = withdrawn v.numbers t; resumed = []; starts = next_to_start (gone v.numbers t) }) (sym c.self.view_is)
     in

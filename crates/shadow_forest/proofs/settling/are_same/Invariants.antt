@@ -1,6 +1,0 @@
-use Rattle.std.proofs.Common.{◌≡◌, drop}
-use Rattle.shadow_forest.specs.Parts.{same_conflicts}
-use Rattle.shadow_forest.proofs.settling.are_same.Given as goal
-
-abbrev pub invariant-loop-i : goal.invariant-loop-i
-invariant-loop-i l = same_conflicts (drop l.i l.some) (drop l.i l.other) ≡ same_conflicts l.some l.other
