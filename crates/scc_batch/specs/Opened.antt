@@ -1,8 +1,7 @@
 -- A forest in which all programs of a batch began, and no more may begin; and one in which all are committed.
-use Rattle.std.specs.Prelude.{◌≡◌, ◌≤◌, ℕ, ◌+◌, List, [], ◌∷◌, ◌++◌, length, map}
+use Rattle.std.specs.Prelude.{◌≡◌, ◌≤◌, ℕ, ◌+◌, List, [], ◌∷◌, ◌++◌, length}
 use Rattle.txn_runs.specs.Bounds.{reach}
 use Rattle.txn_runs.specs.Run.{Tables}
-use Rattle.txn_runs.specs.declared.program.Program.{Program}
 use Rattle.journal_core.specs.Begins.{begins}
 use Rattle.journal_core.specs.Journal.{commits}
 use Rattle.journal_core.specs.declared.entry.Entry.{Entry}
@@ -11,6 +10,7 @@ use Rattle.forest_model.specs.Forest.{Forest}
 use Rattle.batch_input.specs.declared.request.Request.{Request}
 use Rattle.report_text.specs.Order.{NamesEachOnce}
 use Rattle.report_text.specs.Report.{numbered}
+pub use Rattle.batch_input.specs.Input.{programs_of}
 
 -- the program reaches no item beyond so many, and its deadline lies within its limit
 pub record IsWithin (items : ℕ) (request : Request) : Type 0 where
@@ -21,10 +21,6 @@ pub record IsWithin (items : ℕ) (request : Request) : Type 0 where
 abbrev pub begun_from : ℕ → List Request → List Entry
 begun_from number [] = []
 begun_from number (request ∷ requests) = Began number request.deadline request.program ∷ begun_from (number + 1) requests
-
--- the programs, in the order of their lines
-abbrev pub programs_of : List Request → List Program
-programs_of requests = map (λ (request : Request). request.program) requests
 
 -- the forest opened over these tables, and after the begins of these requests, in order, come these entries
 pub record HasBegun (tables : Tables) (requests : List Request) (more : List Entry) (f : Forest) : Type 0 where

@@ -1,8 +1,7 @@
 -- What a batch has read and written at each end of it.
-use Rattle.std.specs.Prelude.{◌≡◌, ◌⊎◌, ◌↔◌, ◌≤◌, ℕ, List, [], ◌++◌, length, codes, decimal, Option, Result, Ok, Err}
+use Rattle.std.specs.Prelude.{◌≡◌, ◌⊎◌, ◌↔◌, ◌≤◌, ℕ, List, [], length, Option, Result, Ok, Err}
 use Rattle.std.specs.Io.KnownBytes.{Consumes, IsAtEnd}
 use Rattle.scc_ports.specs.Ports.{Gains, GainsPrefix}
-use Rattle.scc_replies.specs.Lines.{number_line}
 use Rattle.scc_replies.specs.declared.status.Status.{Status}
 use Rattle.scc_replies.specs.declared.status.Status.TheVariants as status
 use Rattle.txn_runs.specs.Run.{Tables}
@@ -10,6 +9,7 @@ use Rattle.txn_names.specs.Tables.{Named}
 use Rattle.batch_input.specs.declared.request.Request.{Request}
 use Rattle.batch_input.specs.Input.{Batch, Bad, batch_input}
 use Rattle.batch_input.specs.Unread.{IsReadThrough}
+use Rattle.refused_input.specs.Refused.{HasRefused}
 use Rattle.report_text.specs.Order.{order_of, NamesEachOnce}
 use Rattle.report_text.specs.Report.{report}
 use Rattle.scc_batch.specs.Opened.{programs_of}
@@ -23,10 +23,6 @@ pub record IsReport (names : List Named) (tables : Tables) (requests : List Requ
 abbrev pub IsReportOf : Batch → List ℕ → Type 0
 IsReportOf batch text = IsReport batch.opening.names batch.opening.tables batch.requests text
 
--- `bad`, the number of the line, and the number of its refusal
-abbrev pub bad_line : ℕ → ℕ → List ℕ
-bad_line line code = codes "bad " ++ decimal line ++ number_line (codes " ") code
-
 -- a batch that was read to its end and ended so: a report was written, or the front of one, or nothing
 abbrev pub HasRun : Status → Batch → Option (List ℕ) → Option (List ℕ) → Type 0
 HasRun status.Done batch old new = (text : List ℕ) × IsReportOf batch text × Gains old new text
@@ -37,17 +33,6 @@ HasRun (status.BadInput line) batch old new = ⊥
 HasRun status.ReadFault batch old new = ⊥
 HasRun status.InputLimit batch old new = ⊥
 HasRun (status.AuditNo line) batch old new = ⊥
-
--- a batch of which a line is refused: `bad` was written, or the front of it, or nothing
-abbrev pub HasRefused : Status → ℕ → ℕ → Option (List ℕ) → Option (List ℕ) → Type 0
-HasRefused (status.BadInput named) line code old new = (named ≡ line) × Gains old new (bad_line line code)
-HasRefused status.WriteFault line code old new = GainsPrefix old new (bad_line line code)
-HasRefused status.OutOfMemory line code old new = Gains old new []
-HasRefused status.Done line code old new = ⊥
-HasRefused status.BadWords line code old new = ⊥
-HasRefused status.ReadFault line code old new = ⊥
-HasRefused status.InputLimit line code old new = ⊥
-HasRefused (status.AuditNo line') line code old new = ⊥
 
 -- what these bytes make was run, or refused
 abbrev pub HasAnswered : Status → Result Batch Bad → List ℕ → Option (List ℕ) → Option (List ℕ) → Option (List ℕ) → Type 0

@@ -2,15 +2,15 @@
 ghost use Rattle.std.specs.Prelude.{◌≡◌, ◌≤◌, ℕ, List, [], ◌++◌, IfOk, OnOk};
 ghost use Rattle.scc_ports.specs.Ports.{Rose};
 ghost use Rattle.scc_batch.specs.Opened.{AreCommitted};
-ghost use Rattle.scc_batch.specs.Told.{IsReport, HasRun, HasRefused, bad_line, Batched};
+ghost use Rattle.scc_batch.specs.Told.{IsReport, HasRun, Batched};
 
 use crate::opening::opened;
 use crate::reporting::put_last_report;
 use crate::working::worked;
 use batch_input::{BatchInput, Unread, read_input};
+use refused_input::refuse_input;
 use scc_ports::{Gate, Sink, Source, write_all};
-use scc_replies::{Status, put_number_line};
-use scc_text::put_count;
+use scc_replies::Status;
 use shadow_forest::Forest;
 use std::alloc::{AllocError, Global};
 use std::sync::Wait;
@@ -50,7 +50,7 @@ pub fn batch<R: Threads + Wait + Sync, S: Source, K: Sink, G: Gate + Sync, L: Le
 {
     match read_input(alloc, source, sink, steps) {
         Ok(input) => run(rt, alloc, k, lanes, workers, input, sink, gate),
-        Err(Unread::Bad { line, code }) => refuse(alloc, line, code, sink),
+        Err(Unread::Bad { line, code }) => refuse_input(alloc, line, code, sink),
         Err(Unread::ReadFault) => Status::ReadFault,
         Err(Unread::WriteFault) => Status::WriteFault,
         Err(Unread::InputLimit) => Status::InputLimit,
@@ -132,29 +132,4 @@ pub fn commit_all<R: Threads + Wait + Sync, G: Gate + Sync>(
     // that its journal is legal comes with it
     let _ = forest.journal();
     Ok((names, forest))
-}
-
-// Writes that a line is refused.
-fn refuse<K: Sink>(alloc: Global, line: u64, code: u8, sink: &mut K) -> Status
-    ensures told { HasRefused result line code (K.written sink.old) (K.written sink.new) }
-    ensures write_fault { result ≡ Status.WriteFault → Rose (K.faults sink.old) (K.faults sink.new) }
-    ensures later { K.faults sink.old ≤ K.faults sink.new }
-{
-    let mut text = Vec::new(alloc);
-    if put_bad(&mut text, line, code).is_err() {
-        return Status::OutOfMemory;
-    }
-    match write_all(sink, &text) {
-        Ok(()) => Status::BadInput { line },
-        Err(_) => Status::WriteFault,
-    }
-}
-
-// Appends the line of a refused line.
-fn put_bad(out: &mut Vec<u8>, line: u64, code: u8) -> Result<(), AllocError>
-    ensures { OnOk result (out.new.items ≡ out.old.items ++ bad_line line code) }
-{
-    out.extend_from_slice(b"bad ")?;
-    put_count(out, line)?;
-    put_number_line(out, b" ", code as u64)
 }
