@@ -78,7 +78,7 @@ fn lines_are_refused_alone(rt: HostRuntime) -> Result<(), Fail> {
         (b"\n \t\r\n# a\n#a", b"end 0\n"),
         (
             b"journal\njournal x\nreport\nresult 1\nquit\ntable a\x0b 1\n\x0btable a 1\n",
-            b"refuse 12\nrefuse 12\nrefuse 12\nrefuse 12\nrefuse 12\nrefuse 18\nrefuse 12\nend 0\n",
+            b"entry,txn,deadline,detail\nrefuse 13\nrefuse 12\nrefuse 12\nrefuse 12\nrefuse 18\nrefuse 12\nend 0\n",
         ),
         (
             b"run x\ndump\nseal x\ndrain x\nshow\nstep\nstep 1 2 3\ntable a\nput a 9999 x\nbegin\nbegin x { }\nbegin 10{ }\n",
