@@ -1,0 +1,4 @@
+pub mod Answered
+pub mod Turns
+pub mod Talking
+pub mod Ending

@@ -1,0 +1,5 @@
+pub mod Answers
+pub mod Talks
+pub mod Ran
+pub mod Stands
+pub mod Wishes
