@@ -1,0 +1,12 @@
+pub mod Flags
+pub mod Orders
+pub mod Next
+pub mod Taking
+pub mod One
+pub mod Narrow
+pub mod Short
+pub mod Takes
+pub mod First
+pub mod Reading
+pub mod Rows
+pub mod Words
