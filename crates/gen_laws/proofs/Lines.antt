@@ -31,7 +31,6 @@ use Rattle.scc_text.specs.Command.{command_of, command_in, program_bytes}
 use Rattle.scc_text.specs.Number.{natural_of, with_number, if_fits}
 use Rattle.scc_text.specs.Words.{Word, is_blank, placed_words, words_from, words_of, trim_end}
 use Rattle.scc_text.proofs.Trimmed.{trim_end-stop}
-use Rattle.scc_setup.specs.Spelled.{spelled}
 use Rattle.batch_input.specs.Input.{Batch, no_batch, batch_input, lines_from, go_on, after_line, after_command, after_begin}
 use Rattle.report_text.proofs.Rows.{natural-decimal}
 use Rattle.report_text.proofs.Told.{lines-back}
@@ -337,7 +336,7 @@ line-words t small =
           ∙ ap (λ ws. record { text = codes "begin"; place = record { from = 0; to = 5 } } ∷ ws) (word-there 6 number (codes "{" ∷ pieces) (decimal_nonempty t.deadline (omega (arith, d)))),
     )
 
-line-spells : (t : Transfer) → IsSmall t → spelled dialects.Batch (line t) ≡ Ok (Begin t.deadline (place t))
+line-spells : (t : Transfer) → IsSmall t → command_of dialects.Batch (line t) ≡ Ok (Begin t.deadline (place t))
 unfolding command_of
 line-spells t small =
     let d = small.deadline in
@@ -412,7 +411,7 @@ unfolding after_line
 line-taken t b small named few =
     let long = line-length t small in
     let d : ℕ = t.deadline in
-    ap (λ x. if x then Err 11 else after_command b (line t) (spelled dialects.Batch (line t))) (le-ltb 8192 (length (line t)) (omega (arith, long)))
+    ap (λ x. if x then Err 11 else after_command b (line t) (command_of dialects.Batch (line t))) (le-ltb 8192 (length (line t)) (omega (arith, long)))
     ∙ ap (after_command b (line t)) (line-spells t small)
     ∙ ap (λ bytes. after_begin b d (read_of b.opening.names bytes)) (program-cut t)
     ∙ ap (λ ns. after_begin b d (read_of ns (inner t ++ 125 ∷ []))) named
