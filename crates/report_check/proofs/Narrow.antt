@@ -1,9 +1,9 @@
 -- All numbers of a run have 64 bits, where those of its program and of its tables have.
-use Rattle.std.proofs.Common.{◌≡◌, ℕ, zero, suc, ◌+◌, ◌<◌, ◌≤◌, ◌^◌, ℤ, pos, negsuc, Bool, true, false, if◌then◌else◌, cond, List, [], ◌∷◌, ◌++◌, length, get_or, set, replicate, Option, Some, None, Result, Ok, Err, refl, sym, ap, ◌∙◌, subst, arith}
-use Rattle.std.specs.Prelude.{nat_eq, nat_lt, int_lt, int_rem, int_div, ◌+ℤ◌, ◌-ℤ◌, ◌*ℤ◌}
+use Rattle.std.proofs.Common.{◌≡◌, ℕ, zero, suc, ◌+◌, ℤ, pos, negsuc, Bool, true, false, if◌then◌else◌, cond, List, [], ◌∷◌, ◌++◌, length, get_or, set, replicate, Option, Some, None, Result, Ok, Err, refl, subst, arith}
+use Rattle.std.specs.Prelude.{nat_eq, int_lt, int_rem, int_div, ◌+ℤ◌, ◌-ℤ◌, ◌*ℤ◌}
 use Rattle.std.specs.Ordering.{int_eq}
 use Rattle.std.specs.Int.{int_min, int_max}
-use Rattle.std.specs.Int.Signed.{mag, mag_rem}
+use Rattle.std.specs.Int.Signed.{mag_rem}
 use Rattle.std.specs.List.{AllByRecursion}
 use Rattle.std.proofs.lemmas.Bool.Decides.{nat_tests}
 use Rattle.txn_runs.specs.declared.outcome.FaultKind.{FaultKind}
@@ -19,7 +19,7 @@ use Rattle.txn_runs.specs.declared.program.Stmt.TheOpen.{Stmt-F}
 use Rattle.txn_runs.specs.declared.program.Stmt.TheVariants.{Loop}
 use Rattle.txn_runs.specs.declared.program.Block.{Block}
 use Rattle.txn_runs.specs.Value.{calc, holds, fits_i64, in_i64, over_divisor}
-use Rattle.txn_runs.specs.Run.{Tables, Writes, Read, Running, or_fault, put, value_of, item_at, own, logged, stored, fetch, turns, act, step_from, after}
+use Rattle.txn_runs.specs.Run.{Tables, Read, Running, or_fault, put, value_of, item_at, own, logged, stored, fetch, turns, act, step_from, after}
 use Rattle.txn_runs.specs.Bounds.{plus, wide, wide_row, wides, is_narrow}
 use Rattle.txn_runs.specs.Fold.{of_block, of_layer}
 use Rattle.txn_runs.proofs.Folds.{of_block_is, of_stmt_is, of_turns_is}
@@ -168,8 +168,14 @@ narrow-act d n s (Stmt-F.Write table at from) tables none h =
     (λ item is. record { registers = h.registers; writes = set-all IsNarrowIf s.writes item (Some (value_of s from)) h.writes (narrow-value s from (omega (arith, none)) h); reads = h.reads; emits = h.emits; end = h.end; rest = h.rest })
 narrow-act d n s (Stmt-F.If left cmp right first second) tables none h =
     let b : Bool = holds cmp (value_of s left) (value_of s right) in
-    record { registers = h.registers; writes = h.writes; reads = h.reads; emits = h.emits; end = h.end;
-        rest = omega (arith, wides-append (if b then first.stmts else second.stmts) s.rest, wides-chosen b first second (omega (arith, none)), h.rest) }
+    record {
+      registers = h.registers;
+      writes = h.writes;
+      reads = h.reads;
+      emits = h.emits;
+      end = h.end;
+      rest = omega (arith, wides-append (if b then first.stmts else second.stmts) s.rest, wides-chosen b first second (omega (arith, none)), h.rest);
+    }
 narrow-act d n s (Stmt-F.Loop count body) tables none h =
     record { registers = h.registers; writes = h.writes; reads = h.reads; emits = h.emits; end = h.end; rest = omega (arith, wides-append (turns count body) s.rest, wides-turns count body none, h.rest) }
 narrow-act d n s (Stmt-F.Emit from) tables none h =

@@ -1,7 +1,6 @@
 -- Which lines may follow those that were taken in.
-use Rattle.std.proofs.Common.{◌≡◌, ◌≢◌, ◌⊎◌, inl, inr, ℕ, zero, suc, ◌+◌, ◌-◌, ◌<◌, ◌≤◌, ◌^◌, Bool, true, false, List, [], ◌∷◌, ◌++◌, length, map, take, drop, get_or, set, Option, Some, None, slice_get, refl, sym, ap, ◌∙◌, subst, append_assoc, length-append, arith, true≢false}
-use Rattle.std.specs.Prelude.{filter_map}
-use Rattle.std.specs.List.{AllByRecursion, zip}
+use Rattle.std.proofs.Common.{◌≡◌, ◌⊎◌, inl, inr, ℕ, zero, suc, ◌+◌, ◌-◌, ◌<◌, ◌≤◌, ◌^◌, true, false, List, [], ◌∷◌, ◌++◌, length, map, take, drop, get_or, Some, slice_get, refl, sym, ap, ◌∙◌, subst, append_assoc, length-append, arith, true≢false}
+use Rattle.std.specs.List.{zip}
 use Rattle.std.proofs.lemmas.List.{append-nil, append_cancel_left, take-append-drop}
 use Rattle.std.proofs.lemmas.List.Elements.{filter_map-append}
 use Rattle.txn_runs.specs.Run.{Tables}
@@ -18,8 +17,8 @@ use Rattle.report_text.proofs.Fits.{tables-fit, once-fits}
 use Rattle.report_check.specs.Judging.{IsBegun}
 use Rattle.report_check.specs.Reports.{named_in, AreReport}
 use Rattle.report_check.specs.Checked.{Held, IsSound, Stands, IsNext, IsLast}
-use Rattle.report_check.proofs.Flags.{count_set, all-set, set-all}
-use Rattle.report_check.proofs.Orders.{is_in, AreWithin, all-there, distinct-behind, in-append, in-first, missing, none-missing, completed, whole-once, program-at}
+use Rattle.report_check.proofs.Flags.{all-set, set-all}
+use Rattle.report_check.proofs.Orders.{is_in, AreWithin, distinct-behind, in-append, in-first, program-at}
 
 -- Commits of an order and of what comes behind it.
 
@@ -122,8 +121,8 @@ in-all : (names : List Named) (opening : Tables) (programs : List Program) (h : 
 in-all names opening programs h lines sound s each =
     let many = sound.many in
     let flags = set-all h.taken (λ i within.
-        let same : i + 1 - 1 ≡ i = omega arith in
-        sym (ap (λ k. get_or h.taken k false) same) ∙ s.each (i + 1) (omega arith) (omega (arith, within, many)) ∙ each (i + 1) (omega arith) (omega (arith, within, many))) in
+    let same : i + 1 - 1 ≡ i = omega arith in
+    sym (ap (λ k. get_or h.taken k false) same) ∙ s.each (i + 1) (omega arith) (omega (arith, within, many)) ∙ each (i + 1) (omega arith) (omega (arith, within, many))) in
     omega (arith, sound.counted, flags)
 
 -- The next line.
@@ -160,12 +159,18 @@ next-of names opening programs h lines line plain sound s begun =
         let start : h.told ≡ 0 = none-told h.told (λ some. true≢false (sym (all-in names opening programs h lines sound s (s.ripe some) t within.0 within.1) ∙ apart)) in
         let first : line ∷ begun.0 ≡ rows_behind names h.table programs (length s.order) (t ∷ behind) = ap (λ n. take n (last_rows names h.table (length s.order)) ++ line ∷ begun.0) (sym start) ∙ rows in
         let named : program_named (numbered 1 programs) t ≡ get_or programs (t - 1) [] = program-at 1 programs t within.0 (let most = within.1 in omega (arith, most)) in
-        inl (start, (t, record {
-          some = within.0;
-          most = within.1;
-          free = s.each t within.0 within.1 ∙ apart;
-          row = first-of line begun.0 _ _ first ∙ ap (λ p. commit_row t (outcome_of p h.table)) named;
-        }))
+        inl (
+          start,
+          (
+            t,
+            record {
+              some = within.0;
+              most = within.1;
+              free = s.each t within.0 within.1 ∙ apart;
+              row = first-of line begun.0 _ _ first ∙ ap (λ p. commit_row t (outcome_of p h.table)) named;
+            },
+          ),
+        )
       where
         none-told : (n : ℕ) → (0 < n → ⊥) → n ≡ 0
         none-told zero h = refl

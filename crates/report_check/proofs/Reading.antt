@@ -1,7 +1,6 @@
 -- What an audit has read between two lines, and what each answer of the reader makes of it.
 use Rattle.std.proofs.Common.{◌≡◌, ◌≢◌, ◌↔◌, inl, inr, ℕ, ◌+◌, ◌<◌, ◌≤◌, Bool, true, false, List, [], ◌∷◌, ◌++◌, length, Option, Result, Ok, Err, refl, sym, ap, ◌∙◌, subst, append_assoc, length-append, arith}
 use Rattle.std.proofs.lemmas.List.{append-nil}
-use Rattle.std.specs.Io.KnownBytes.{Consumes, IsAtEnd}
 use Rattle.scc_text.specs.Lines.{lines_of, whole_lines}
 use Rattle.scc_text.specs.Reader.{Reader, Answers}
 use Rattle.scc_text.specs.LinesRead.{LinesRead}
@@ -18,7 +17,7 @@ use Rattle.report_check.specs.declared.verdict.AuditEnd.{AuditEnd}
 use Rattle.report_check.specs.declared.verdict.AuditEnd.TheVariants as ends
 use Rattle.report_check.specs.Judging.{IsBegun}
 use Rattle.report_check.specs.Reports.{AreReport, IsReportVerdict}
-use Rattle.report_check.specs.Audited.{IsReadFor, Says, Audited}
+use Rattle.report_check.specs.Audited.{IsReadFor, Audited}
 use Rattle.report_check.specs.Checked.{Held, IsSound, Stands, Takes}
 use Rattle.report_check.proofs.Taking.{begins}
 use Rattle.report_check.proofs.First.{first-bad}

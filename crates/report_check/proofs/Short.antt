@@ -1,30 +1,28 @@
 -- No line of a report is longer than a line may be.
-use Rattle.std.proofs.Common.{◌≡◌, ℕ, zero, suc, ◌+◌, ◌-◌, ◌*◌, ◌<◌, ◌≤◌, ◌^◌, ℤ, pos, Bool, true, false, ◌&&◌, nat_le, true≢false, List, [], ◌∷◌, ◌++◌, length, take, drop, get_or, Option, Some, None, slice_get, slice_range, refl, sym, ap, ◌∙◌, subst, arith, length-append}
+use Rattle.std.proofs.Common.{◌≡◌, ℕ, zero, suc, ◌+◌, ◌-◌, ◌*◌, ◌<◌, ◌≤◌, ◌^◌, ℤ, Bool, true, false, ◌&&◌, nat_le, true≢false, List, [], ◌∷◌, ◌++◌, length, take, drop, get_or, Some, slice_get, slice_range, refl, sym, subst, arith, length-append}
 use Rattle.std.specs.Prelude.{codes, decimal}
 use Rattle.std.specs.Fmt.{signed_decimal}
-use Rattle.std.specs.List.{All, AllByRecursion, sum_by}
+use Rattle.std.specs.List.{AllByRecursion}
 use Rattle.std.proofs.lemmas.Fmt.{length-decimal-le, length_signed_le}
 use Rattle.std.proofs.lemmas.List.{length-take}
 use Rattle.std.proofs.lemmas.Bool.Decides.{nat_tests}
 use Rattle.txn_names.specs.Word.{is_name}
-use Rattle.txn_runs.specs.declared.outcome.Outcome.{Outcome}
-use Rattle.txn_runs.specs.declared.outcome.Outcome.TheVariants.{Done, Failed, Fault}
 use Rattle.txn_runs.specs.declared.outcome.FaultKind.{FaultKind}
 use Rattle.txn_runs.specs.declared.outcome.FaultKind.TheVariants.{Overflow, Zero, Range}
 use Rattle.txn_runs.specs.declared.outcome.End.{End}
 use Rattle.txn_runs.specs.declared.outcome.End.TheVariants as ends
 use Rattle.txn_runs.specs.declared.program.Program.{Program}
-use Rattle.txn_runs.specs.Bounds.{IsProgram, emits_max}
-use Rattle.txn_runs.specs.Run.{Tables, after, stored}
-use Rattle.txn_runs.specs.Serial.{outcome_of, outcome_by, run_length, last_state}
+use Rattle.txn_runs.specs.Bounds.{IsProgram}
+use Rattle.txn_runs.specs.Run.{Tables, after}
+use Rattle.txn_runs.specs.Serial.{outcome_of, outcome_by, run_length}
 use Rattle.txn_runs.proofs.Within.{after_within}
-use Rattle.txn_names.specs.Tables.{Named, IsTable, IsNames, items_of}
+use Rattle.txn_names.specs.Tables.{Named, IsTable, IsNames}
 use Rattle.scc_text.specs.Number.{numbers}
 use Rattle.journal_core.specs.Reply.{outcome_words, fault_word}
 use Rattle.report_text.specs.Rows.{commit_row, final_row, final_rows, end_row, last_rows}
 use Rattle.report_check.specs.Checked.{Held, IsSound, IsNext, IsLast}
 use Rattle.report_check.specs.Limits.{IsNarrow, AreNarrowTables, AreLimited}
-use Rattle.report_check.proofs.Narrow.{IsNarrowEnd, AreNarrow, after-narrow}
+use Rattle.report_check.proofs.Narrow.{IsNarrowEnd, after-narrow}
 
 -- Numbers.
 

@@ -1,5 +1,5 @@
 -- What becomes of a line: it is taken in, or no report has it behind those before it.
-use Rattle.std.proofs.Common.{◌≡◌, ◌≢◌, inl, inr, ℕ, zero, suc, ◌-◌, ◌<◌, ◌≤◌, ◌^◌, Bool, true, false, List, [], ◌∷◌, ◌++◌, length, get_or, Option, Some, None, slice_get, refl, sym, ap, ◌∙◌, subst, arith}
+use Rattle.std.proofs.Common.{◌≡◌, ◌≢◌, inl, inr, ℕ, zero, suc, ◌-◌, ◌<◌, ◌^◌, Bool, true, false, List, [], ◌∷◌, ◌++◌, length, get_or, Option, Some, None, slice_get, refl, sym, ap, ◌∙◌, subst, arith}
 use Rattle.std.specs.Prelude.{min, option_map}
 use Rattle.std.specs.List.{cons_option}
 use Rattle.std.proofs.lemmas.Option.{same_Some}
@@ -11,9 +11,8 @@ use Rattle.report_text.specs.Order.{commit_number}
 use Rattle.report_text.specs.Rows.{last_rows}
 use Rattle.report_text.proofs.Rows.{commit-named}
 use Rattle.report_text.proofs.Told.{last-named}
-use Rattle.report_check.specs.Judging.{IsBegun}
-use Rattle.report_check.specs.Reports.{named_in, AreReport}
-use Rattle.report_check.specs.Checked.{Held, IsSound, Stands, IsNext, committed, IsLast, Commits, Tells, Takes, Differs}
+use Rattle.report_check.specs.Reports.{named_in}
+use Rattle.report_check.specs.Checked.{Held, IsSound, Stands, IsNext, IsLast, Commits, Tells, Takes, Differs}
 use Rattle.report_check.specs.Limits.{AreLimited, AreNarrowTables}
 use Rattle.report_check.proofs.Next.{next-of}
 use Rattle.report_check.proofs.Short.{short-next, short-last}

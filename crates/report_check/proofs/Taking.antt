@@ -1,25 +1,24 @@
 -- A line more is taken in.
-use Rattle.std.proofs.Common.{◌≡◌, ◌≢◌, ℕ, zero, suc, ◌+◌, ◌-◌, ◌<◌, ◌≤◌, ◌^◌, ◌==◌, ◌||◌, Bool, true, false, List, [], ◌∷◌, ◌++◌, length, map, take, drop, get_or, set, replicate, Option, Some, None, slice_get, refl, sym, ap, ◌∙◌, subst, append_assoc, length-append, arith, true≢false, eqb-true, add-one}
-use Rattle.std.specs.List.{All, AllByRecursion, list_any, count_by}
-use Rattle.std.proofs.lemmas.Bool.{ne_eqb}
+use Rattle.std.proofs.Common.{◌≡◌, ◌≢◌, ℕ, zero, suc, ◌+◌, ◌-◌, ◌<◌, ◌≤◌, ◌==◌, ◌||◌, Bool, true, false, List, [], ◌∷◌, ◌++◌, length, take, drop, get_or, set, replicate, Some, slice_get, refl, sym, ap, ◌∙◌, subst, append_assoc, length-append, arith, true≢false, eqb-true, add-one}
+use Rattle.std.specs.List.{All}
 use Rattle.std.proofs.lemmas.List.{append-nil, get_or-replicate, get_or-set_same, get_or-set_other, length-set, length-take-le, take_all, take-append-drop}
 use Rattle.std.proofs.lemmas.Option.{slice_get_within, get_or_from_slice_get}
 use Rattle.std.proofs.Math.Seq.{take-suc}
 use Rattle.std.proofs.lemmas.List.Folds.{list_any-append}
 use Rattle.txn_runs.specs.Bounds.{reach}
 use Rattle.txn_runs.specs.Run.{Tables, Writes}
-use Rattle.txn_runs.specs.Serial.{outcome_of, effect_of, over, outcomes, last_tables, instead}
+use Rattle.txn_runs.specs.Serial.{outcome_of, effect_of, over, last_tables}
 use Rattle.txn_runs.specs.declared.program.Program.{Program}
-use Rattle.txn_names.specs.Tables.{Named, IsNames, items_of}
+use Rattle.txn_names.specs.Tables.{Named, IsNames}
 use Rattle.journal_core.specs.Numbered.{program_named}
 use Rattle.report_text.specs.Report.{numbered, in_order}
 use Rattle.report_text.specs.Rows.{commit_row, order_rows, last_rows, report_rows}
-use Rattle.report_check.specs.Judging.{IsBegun, IsFirstWrong}
+use Rattle.report_check.specs.Judging.{IsBegun}
 use Rattle.report_check.specs.Reports.{AreReport}
 use Rattle.report_check.specs.Checked.{Held, IsSound, Stands, IsNext, committed, IsLast}
 use Rattle.report_check.proofs.Flags.{one-more-set}
-use Rattle.report_check.proofs.Orders.{is_in, all-more, distinct-append, missing, none-missing, completed, whole-once, program-at}
-use Rattle.report_check.proofs.Next.{commits-append, last-append, rows_behind, report-append, last-many, reports, Onward, onward, all-in}
+use Rattle.report_check.proofs.Orders.{is_in, all-more, distinct-append, missing, completed, whole-once, program-at}
+use Rattle.report_check.proofs.Next.{commits-append, last-append, rows_behind, report-append, last-many, reports, onward, all-in}
 
 -- Commits.
 

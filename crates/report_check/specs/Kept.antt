@@ -1,5 +1,4 @@
 -- What a check keeps of the lines so far.
-use Rattle.std.specs.Prelude.{ℕ, length}
 use Rattle.report_check.specs.declared.check.Check.{Check}
 use Rattle.report_check.specs.Checked.{Held}
 

@@ -1,4 +1,3 @@
-use Rattle.report_text.specs.Rows.{report_rows}
 use Rattle.report_text.proofs.Told.{report-lines}
 use Rattle.report_text.proofs.Fits.{tables-fit}
 use Rattle.report_check.proofs.Next.{reports}

@@ -1,4 +1,4 @@
-use Rattle.std.proofs.Common.{◌++◌, take, drop, sym, ap, ◌∙◌, eq-eqb, arith}
+use Rattle.std.proofs.Common.{◌++◌, take, sym, ap, ◌∙◌, eq-eqb}
 use Rattle.std.proofs.lemmas.Bool.{ne_eqb}
 use Rattle.std.proofs.lemmas.List.{append-nil, take_all}
 use Rattle.report_check.proofs.Words.{word-next, word-ends, word-over}

@@ -1,4 +1,4 @@
-use Rattle.std.proofs.Common.{◌≡◌, ℕ, Ok, ap, sym, ◌∙◌, subst, arith, refl}
+use Rattle.std.proofs.Common.{Ok, ap, sym, ◌∙◌, subst, arith, refl}
 use Rattle.scc_text.specs.Reader.{Reader}
 use Rattle.report_check.specs.Audited.{Audited}
 use Rattle.report_check.specs.Checked.{Takes}
@@ -35,8 +35,8 @@ returns-in-Ok-false-clause-audited g c = λ left before done pending few lines.
     let answers = c.in-Line.ensures.answers in
     let takes = subst (λ goes. Takes c.args.names.now c.args.programs.now (held c.lines.check) (held c.take.new.self) c.line.result.now goes) c.in-Ok-false.field-0-test c.in-Ok-false.ensures.takes in
     subst (λ v. Audited c.args.names.now c.args.table c.args.programs.now done left (g.S.Source.left c.next_line.new.source) (Ok v)) (sym c.no.ensures) (
-      audited-bad c.args.names.now c.args.table c.args.programs.now (held c.lines.check) (held c.take.new.self) c.lines.reader c.next_line.new.self left _ _ done c.line.result.now answers.0 c.count.ensures.limits
-      c.lines.invariant.sound (c.lines.invariant.passed left before done pending lines) answers.1 (room_left _ _ c.in-Line.ensures.limit (λ is. cc) c.in-Line.ensures.room) c.line.ensures takes)
+    audited-bad c.args.names.now c.args.table c.args.programs.now (held c.lines.check) (held c.take.new.self) c.lines.reader c.next_line.new.self left _ _ done c.line.result.now answers.0 c.count.ensures.limits
+    c.lines.invariant.sound (c.lines.invariant.passed left before done pending lines) answers.1 (room_left _ _ c.in-Line.ensures.limit (λ is. cc) c.in-Line.ensures.room) c.line.ensures takes)
 
 pub returns-in-Err-clause-audited : goal.returns-in-Err-clause-audited
 returns-in-Err-clause-audited g c = λ left before done pending few lines.
@@ -49,9 +49,9 @@ returns-in-TooLong-clause-audited g c = λ left before done pending few lines.
     let answers = c.in-TooLong.ensures.answers in
     let most = c.lines.invariant.most in
     subst (λ v. Audited c.args.names.now c.args.table c.args.programs.now done left (g.S.Source.left c.next_line.new.source) (Ok v)) (sym c.no-in-TooLong.ensures) (
-      audited-long c.args.names.now c.args.table c.args.programs.now (held c.lines.check) c.lines.reader c.next_line.new.self left _ _ done answers.0 c.count.ensures.limits c.lines.invariant.sound
-      (c.lines.invariant.passed left before done pending lines) answers.1 (room_left _ _ c.in-TooLong.ensures.limit (λ is. cc) c.in-TooLong.ensures.room)
-      (λ line long. c.too_long.ensures line (omega (arith, long, most))))
+    audited-long c.args.names.now c.args.table c.args.programs.now (held c.lines.check) c.lines.reader c.next_line.new.self left _ _ done answers.0 c.count.ensures.limits c.lines.invariant.sound
+    (c.lines.invariant.passed left before done pending lines) answers.1 (room_left _ _ c.in-TooLong.ensures.limit (λ is. cc) c.in-TooLong.ensures.room)
+    (λ line long. c.too_long.ensures line (omega (arith, long, most))))
 
 pub returns-in-End-clause-audited : goal.returns-in-End-clause-audited
 returns-in-End-clause-audited g c = λ left before done pending few lines.

@@ -1,9 +1,8 @@
-use Rattle.std.proofs.Common.{ℕ, ◌≡◌, ◌-◌, ◌+◌, ◌++◌, ◌∷◌, [], Bool, true, false, length, get_or, set, sym, ◌∙◌, ap, subst, refl, true≢false, arith}
+use Rattle.std.proofs.Common.{◌≡◌, ◌-◌, ◌++◌, ◌∷◌, [], false, get_or, sym, ◌∙◌, ap, subst, true≢false, arith}
 use Rattle.std.proofs.lemmas.List.{get_or_read, append_cancel_right}
 use Rattle.txn_runs.specs.Serial.{outcome_of, effect_of, over}
 use Rattle.journal_core.specs.Reply.{commit_line}
 use Rattle.report_text.specs.Rows.{commit_row}
-use Rattle.report_check.specs.Checked.{Held, IsNext, committed}
 use Rattle.report_check.specs.Kept.{held}
 use Rattle.report_check.proofs.Flags.{room-for-one}
 use Rattle.report_check.proofs.Takes.{next-number, held-same}

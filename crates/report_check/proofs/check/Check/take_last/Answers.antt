@@ -1,4 +1,4 @@
-use Rattle.std.proofs.Common.{length, arith}
+use Rattle.std.proofs.Common.{arith}
 use Rattle.std.proofs.lemmas.Option.{slice_get_within}
 use Rattle.report_text.specs.Rows.{last_rows}
 use Rattle.report_check.proofs.Next.{last-many}

@@ -1,4 +1,4 @@
-use Rattle.std.proofs.Common.{◌+◌, length, arith}
+use Rattle.std.proofs.Common.{length, arith}
 use Rattle.report_check.specs.Kept.{held}
 use Rattle.report_check.proofs.First.{first-missing}
 use Rattle.report_check.proofs.Taking.{ends-whole}
