@@ -1,0 +1,3 @@
+pub mod Head
+pub mod Behind
+pub mod Reading
