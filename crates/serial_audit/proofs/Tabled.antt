@@ -15,7 +15,7 @@ use Rattle.journal_core.proofs.Legal.{counts, begun-live, legal-push}
 use Rattle.journal_table.specs.Rows.{Row, heading}
 use Rattle.journal_table.specs.Spelled.{Spells, AreSpelled}
 use Rattle.journal_table.proofs.Only.{only-began, only-committed, only-withdrawn, only-sealed}
-use Rattle.serial_audit.specs.Judging.{IsFirstWrong}
+use Rattle.report_check.specs.Judging.{IsFirstWrong}
 use Rattle.serial_audit.specs.Tables.{IsTable}
 
 -- an empty journal

@@ -6,9 +6,9 @@ use Rattle.journal_core.specs.declared.entry.Entry.{Entry}
 use Rattle.journal_core.specs.Journal.{commits, IsLegal}
 use Rattle.journal_table.specs.Rows.{Row, heading}
 use Rattle.journal_table.specs.Spelled.{AreSpelled}
-use Rattle.serial_audit.specs.declared.verdict.Verdict.{Verdict}
-use Rattle.serial_audit.specs.declared.verdict.Verdict.TheVariants.{Yes, No}
-use Rattle.serial_audit.specs.Judging.{IsFirstWrong}
+use Rattle.report_check.specs.declared.verdict.Verdict.{Verdict}
+use Rattle.report_check.specs.declared.verdict.Verdict.TheVariants.{Yes, No}
+use Rattle.report_check.specs.Judging.{IsFirstWrong}
 
 -- the rows are the heading and those of the entries of a legal journal
 pub record IsTable (names : List Named) (opening : Tables) (rows : List Row) : Type 0 where

@@ -4,7 +4,7 @@ ghost use Rattle.txn_names.specs.Tables.{items_of};
 ghost use Rattle.journal_table.specs.Spelled.{rows_in};
 ghost use Rattle.serial_audit.specs.Tables.{IsTableVerdict};
 
-use crate::Verdict;
+use report_check::Verdict;
 use csv::ByteRecord;
 use item_table::Table;
 use journal_table::{Replay, is_heading, next_row, open_rows};

@@ -7,7 +7,7 @@ ghost use Rattle.journal_core.specs.declared.entry.Entry.{Entry as EntryOf};
 ghost use Rattle.journal_core.specs.Journal.{commits, IsLegal};
 ghost use Rattle.journal_table.specs.Rows.{journal_text};
 ghost use Rattle.journal_table.specs.Spelled.{rows_in};
-ghost use Rattle.serial_audit.specs.declared.verdict.Verdict.TheVariants.{Yes};
+ghost use Rattle.report_check.specs.declared.verdict.Verdict.TheVariants.{Yes};
 ghost use Rattle.serial_audit.specs.Tables.{IsTableVerdict};
 ghost use Rattle.serial_audit.specs.Written.{IsWritten};
 

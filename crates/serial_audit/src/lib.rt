@@ -1,13 +1,12 @@
-//! Audits of what was printed: today of a journal as a table.
+//! Audits of what was printed: of a report, and of a journal as a table.
 //!
 //! It runs each program once, alone, and knows no forest. The formats stand in docs/FORMATS.md, what is proved in docs/PROMISES.md.
 #![tactic(auto)]
 
 mod journal;
 mod laws;
-mod verdict;
 
 pub use journal::audit_journal;
 pub use journal_table::{Replay, put_record, write_journal};
 pub use laws::written_journals;
-pub use verdict::Verdict;
+pub use report_check::{AuditEnd, Verdict, audit, one_verdict, reports_pass};

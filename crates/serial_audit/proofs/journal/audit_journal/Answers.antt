@@ -8,7 +8,7 @@ use Rattle.journal_core.proofs.Legal.{legal-push}
 use Rattle.journal_table.specs.Rows.{heading}
 use Rattle.journal_table.specs.Spelled.{rows_in}
 use Rattle.journal_table.proofs.RowsRead.{rows-begin, rows-all}
-use Rattle.serial_audit.specs.Judging.{IsFirstWrong}
+use Rattle.report_check.specs.Judging.{IsFirstWrong}
 use Rattle.serial_audit.specs.Tables.{IsTable}
 use Rattle.serial_audit.proofs.Tabled.{first-none, first-other, first-bad, spelled-more}
 use Rattle.serial_audit.proofs.journal.audit_journal.Goals as goal
