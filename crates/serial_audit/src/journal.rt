@@ -4,10 +4,10 @@ ghost use Rattle.txn_names.specs.Tables.{items_of};
 ghost use Rattle.journal_table.specs.Spelled.{rows_in};
 ghost use Rattle.serial_audit.specs.Tables.{IsTableVerdict};
 
-use report_check::Verdict;
 use csv::ByteRecord;
 use item_table::Table;
 use journal_table::{Replay, is_heading, next_row, open_rows};
+use report_check::Verdict;
 use std::alloc::{AllocError, Global};
 use std::sync::ledger::Ledger;
 use step_count::Steps;
