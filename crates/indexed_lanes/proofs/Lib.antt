@@ -9,4 +9,5 @@ pub mod Renewed
 pub mod Shifts
 pub mod Keeping
 pub mod Reading
+pub mod Filling
 pub mod Passing

@@ -54,7 +54,7 @@ pub placed_mark : (index : Index) (order : List ℕ) (i n : ℕ) → slice_get o
 placed_mark index order i n is = get_or_from_slice_get (map (is_marked index) order) i (is_marked index n) false (get_map (is_marked index) order i n is)
 
 -- the point of one place against another
-placed_point : (index : Index) (order : List ℕ) (i j n m : ℕ) → slice_get order i ≡ Some n → slice_get order j ≡ Some m → point_at (in_places index order) i j ≡ point_at index n m
+pub placed_point : (index : Index) (order : List ℕ) (i j n m : ℕ) → slice_get order i ≡ Some n → slice_get order j ≡ Some m → point_at (in_places index order) i j ≡ point_at index n m
 placed_point index order i j n m at_i at_j = ap₂ (λ (a b : Lane). point a.reads b.writes) (placed_lane index order i n at_i) (placed_lane index order j m at_j)
 
 order_unmoved : (old new : Index) (order : List ℕ) (room n : ℕ) (lane : Lane) → AreAll (length old.lanes) order room → new.lanes ≡ lanes_with old n lane → MarksMoved old new

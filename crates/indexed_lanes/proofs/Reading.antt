@@ -102,10 +102,6 @@ reading nodes items ws st r = seat_with 0 (stepped_slot st) (renewed nodes items
 abbrev pub IsReady : Seated → ℕ → ℕ → List Node → Seat → Seated → Type 0
 IsReady s place item nodes r mid = mid ≡ record s { seats = at_place place (renewed nodes s.items (wanted_among s.most (Some item) s.seats r)) s.seats }
 
-pub ready_some : (s mid new : Seated) (place item : ℕ) (nodes : List Node) (r : Seat) (ws : List Conflict) → mid ≡ new → new ≡ record s { seats = at_place place (renewed nodes s.items ws) s.seats }
-    → ws ≡ wanted_among s.most (Some item) s.seats r → IsReady s place item nodes r mid
-ready_some s mid new place item nodes r ws is new_is e = is ∙ new_is ∙ ap (λ (cs : List Conflict). record s { seats = at_place place (renewed nodes s.items cs) s.seats }) e
-
 pub ready_none : (s mid : Seated) (o : Option Index) (place item : ℕ) (nodes : List Node) (r : Seat) → mid ≡ s → o ≡ None → IsIndexed s o → AreSeats s → slice_get s.seats place ≡ Some r → IsReady s place item nodes r mid
 ready_none s mid o place item nodes r is none h all at =
     is ∙ ap (λ (seats : List Seat). record s { seats = seats }) (one_still s place nodes (Some item) r (none_kept s o none h) (all_get (IsSeat s.most s.items) s.seats place r all.each at) at)

@@ -70,7 +70,7 @@ renewed-true nodes items ws r e = rw e refl
 renewed-false : (nodes : List Node) (items : ℕ) (ws : List Conflict) (r : Seat) → same_conflicts (conflicts_of r) ws ≡ false → settled_seat nodes items ws r ≡ renewed nodes items ws r
 renewed-false nodes items ws r e = rw e refl
 
-at_still : (place : ℕ) (f : Seat → Seat) (seats : List Seat) (r : Seat) → slice_get seats place ≡ Some r → f r ≡ r → seats ≡ at_place place f seats
+pub at_still : (place : ℕ) (f : Seat → Seat) (seats : List Seat) (r : Seat) → slice_get seats place ≡ Some r → f r ≡ r → seats ≡ at_place place f seats
 at_still place f seats r is e = sym (at_alike place f (λ x. x) seats r is e ∙ unchanged place seats)
   where
     unchanged : (n : ℕ) (xs : List Seat) → at_place n (λ x. x) xs ≡ xs

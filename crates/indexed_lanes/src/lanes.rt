@@ -10,7 +10,7 @@ ghost use Rattle.indexed_lanes.specs.Wanted.{wanted_among, renewed, AreWanted};
 
 use crate::noting::{note_anew, note_step};
 use crate::placed::PlacedIndex;
-use crate::wanting::{have, wanted_at};
+use crate::wanting::{have, have_before_read, wanted_at};
 use conflict_table::point;
 use item_table::Table;
 use shadow_lanes::Lanes;
@@ -307,8 +307,7 @@ impl IndexedLanes {
         let _ = self.lanes.len();
         let position = self.lanes.state(place, 0).position();
         if let Some(index) = &mut self.index {
-            let conflicts = wanted_at(&self.lanes, index, place, Some(item));
-            have(&mut self.lanes, place, conflicts.as_slice(), code);
+            have_before_read(&mut self.lanes, index, place, item, code);
             index.note_read(place, position, item);
         }
         self.lanes.step(place, 0, code, tables, steps);

@@ -1,6 +1,6 @@
-ghost use Rattle.std.specs.Prelude.{◌≡◌, ◌≢◌, ◌<◌, ◌≤◌, replicate, false, length, IfOk};
+ghost use Rattle.std.specs.Prelude.{◌≡◌, ◌≢◌, ◌<◌, ◌≤◌, ◌↔◌, replicate, false, length, IfOk, IsTrue};
 ghost use Rattle.std.specs.Vec.{vec_capacity};
-ghost use Rattle.conflict_index.specs.Index.{lane_at, is_marked, point_at, forgotten, with_read, with_write, lanes_with};
+ghost use Rattle.conflict_index.specs.Index.{lane_at, is_marked, point_at, forgotten, with_read, with_write, lanes_with, Fills};
 ghost use Rattle.shadow_lanes.specs.Kept.{AreAll};
 ghost use Rattle.indexed_lanes.specs.Placed.{moved, AreUnmoved};
 
@@ -94,6 +94,15 @@ impl PlacedIndex {
         let from = self.order[reader as usize];
         let to = self.order[writer as usize];
         self.index.point_of(from, to)
+    }
+
+    /// Whether a read of the item, behind all others of the lane at a place, would give it a point against one against which it has none.
+    pub fn fills(&self, place: u32, item: u32) -> bool
+        requires place { place < length self.now.lanes }
+        requires item { item < self.now.items }
+        ensures { IsTrue result ↔ Fills self.now place item }
+    {
+        self.index.fills(self.order[place as usize], item)
     }
 
     /// Whether a point of the lane at a place has moved since the marks were settled.

@@ -5,7 +5,7 @@ ghost use Rattle.txn_interp.specs.State.{Carries};
 ghost use Rattle.shadow_state.specs.Bank.{at_place};
 ghost use Rattle.shadow_lanes.specs.Seats.{Seat, AreSeats};
 ghost use Rattle.indexed_lanes.specs.Noted.{IsNoted};
-ghost use Rattle.indexed_lanes.specs.Wanted.{point_with, conflict_between, wanted_among, same_conflicts, renewed};
+ghost use Rattle.indexed_lanes.specs.Wanted.{point_with, conflict_between, wanted_among, same_conflicts, renewed, IsKept};
 
 use crate::placed::PlacedIndex;
 use arrayvec::ArrayVec;
@@ -107,6 +107,22 @@ fn point_before(
                 }
             }
         },
+    }
+}
+
+/// The transaction at a place has exactly the shadows that it will want after it has read this item. It stays as it is where it wants
+/// no others now and the read gives it no point against one against which it has none.
+pub fn have_before_read(lanes: &mut Lanes, index: &PlacedIndex, place: u32, item: u32, code: &Code)
+    requires place { place < length lanes.old.seats }
+    requires kept { IsKept lanes.old index.now }
+    requires item { item < lanes.old.items }
+    requires carries { Carries code.now.nodes lanes.old.items }
+    ensures { (r : Seat) → slice_get lanes.old.seats place ≡ Some r
+        → lanes.new ≡ record lanes.old { seats = at_place place (renewed code.now.nodes lanes.old.items (wanted_among lanes.old.most (Some item) lanes.old.seats r)) lanes.old.seats } }
+{
+    if index.changed(place) || index.fills(place, item) {
+        let conflicts = wanted_at(lanes, index, place, Some(item));
+        have(lanes, place, conflicts.as_slice(), code);
     }
 }
 

@@ -6,10 +6,13 @@ use Rattle.indexed_lanes.specs.Wanted.{wanted_among, IsIndexed}
 use Rattle.indexed_lanes.proofs.Notes.{first_state}
 use Rattle.indexed_lanes.proofs.Steps.{runs_of}
 use Rattle.indexed_lanes.proofs.Keeping.{some_kept, none_kept}
-use Rattle.indexed_lanes.proofs.Reading.{IsReady, ready_some, ready_none, ready_below, IsRead, renewed_slot, read_event, read_kept}
+use Rattle.indexed_lanes.proofs.Reading.{IsReady, ready_none, ready_below, IsRead, renewed_slot, read_event, read_kept}
 use Rattle.indexed_lanes.specs.declared.lanes.IndexedLanes.TheInside.{Inside}
 use Rattle.indexed_lanes.proofs.lanes.IndexedLanes.read.Goals as goal
 use Rattle.indexed_lanes.proofs.lanes.IndexedLanes.read.Goals.{in-Some, in_default}
+
+pub have_before_read-requires-clause-kept : goal.have_before_read-requires-clause-kept
+have_before_read-requires-clause-kept g c = some_kept c.self.inside.lanes c.self.inside.index c.in-Some.index c.in-Some.is c.self.invariant
 
 pub step-requires-clause-place : goal.step-requires-clause-place
 step-requires-clause-place g c =
@@ -19,7 +22,7 @@ step-requires-clause-place g c =
     let r = some_at s.seats c.args.place lt in
     let ready : IsReady s c.args.place c.args.item c.args.code.now.nodes r.0 v.lanes =
     elim c.match-self.branch [
-      | in-Some w ↦ ready_some s v.lanes w.have.new.lanes c.args.place c.args.item c.args.code.now.nodes r.0 w.as_slice.result.now (ap (λ (v : Inside). v.lanes) w.self-inside-is) w.have.ensures (w.as_slice.ensures.value ∙ w.wanted_at-conflicts.ensures.wanted r.0 r.1)
+      | in-Some w ↦ ap (λ (v : Inside). v.lanes) w.self-inside-is ∙ w.have_before_read.ensures r.0 r.1
       | in_default w ↦ ready_none s v.lanes c.self.inside.index c.args.place c.args.item c.args.code.now.nodes r.0 (ap (λ (v : Inside). v.lanes) w.self-inside-is) w.in_default.is c.self.invariant c.len.ensures.seats r.1
     ]
     in
@@ -32,7 +35,7 @@ step-requires-clause-runs g c = λ x slot.
     let r = some_at s.seats c.args.place (rw (← c.self.view_is) at c.requires.place) in
     let ready : IsReady s c.args.place c.args.item c.args.code.now.nodes r.0 v.lanes =
     elim c.match-self.branch [
-      | in-Some w ↦ ready_some s v.lanes w.have.new.lanes c.args.place c.args.item c.args.code.now.nodes r.0 w.as_slice.result.now (ap (λ (v : Inside). v.lanes) w.self-inside-is) w.have.ensures (w.as_slice.ensures.value ∙ w.wanted_at-conflicts.ensures.wanted r.0 r.1)
+      | in-Some w ↦ ap (λ (v : Inside). v.lanes) w.self-inside-is ∙ w.have_before_read.ensures r.0 r.1
       | in_default w ↦ ready_none s v.lanes c.self.inside.index c.args.place c.args.item c.args.code.now.nodes r.0 (ap (λ (v : Inside). v.lanes) w.self-inside-is) w.in_default.is c.self.invariant c.len.ensures.seats r.1
     ]
     in
@@ -40,6 +43,19 @@ step-requires-clause-runs g c = λ x slot.
     let mine = runs r.0 r.1 in
     let same = renewed_slot s v.lanes c.args.place c.args.code.now.nodes (wanted_among s.most (Some c.args.item) s.seats r.0) r.0 x r.1 ready slot in
     rw same (runs_of _ _ _ mine.0, mine.2)
+
+pub step-requires-clause-tables : goal.step-requires-clause-tables
+step-requires-clause-tables g c =
+    let s = c.self.inside.lanes in
+    let v = c.match-self.self-inside in
+    let r = some_at s.seats c.args.place (rw (← c.self.view_is) at c.requires.place) in
+    let ready : IsReady s c.args.place c.args.item c.args.code.now.nodes r.0 v.lanes =
+    elim c.match-self.branch [
+      | in-Some w ↦ ap (λ (v : Inside). v.lanes) w.self-inside-is ∙ w.have_before_read.ensures r.0 r.1
+      | in_default w ↦ ready_none s v.lanes c.self.inside.index c.args.place c.args.item c.args.code.now.nodes r.0 (ap (λ (v : Inside). v.lanes) w.self-inside-is) w.in_default.is c.self.invariant c.len.ensures.seats r.1
+    ]
+    in
+    (rw (← c.self.view_is) at c.requires.tables) ∙ sym (ap (λ (y : Seated). y.items) ready)
 
 -- the whole call
 whole : (g : _) (c : goal.After-step g) → (r : Seat) × IsRead c.self.inside.lanes c.args.place c.args.item c.args.code.now.nodes c.args.tables.now r c.step.ensures.seats.0 c.step.ensures.seats.1 c.match-self.self-inside.lanes c.step.new.self
@@ -49,7 +65,7 @@ whole g c =
     let r = some_at s.seats c.args.place (rw (← c.self.view_is) at c.requires.place) in
     let ready : IsReady s c.args.place c.args.item c.args.code.now.nodes r.0 v.lanes =
     elim c.match-self.branch [
-      | in-Some w ↦ ready_some s v.lanes w.have.new.lanes c.args.place c.args.item c.args.code.now.nodes r.0 w.as_slice.result.now (ap (λ (v : Inside). v.lanes) w.self-inside-is) w.have.ensures (w.as_slice.ensures.value ∙ w.wanted_at-conflicts.ensures.wanted r.0 r.1)
+      | in-Some w ↦ ap (λ (v : Inside). v.lanes) w.self-inside-is ∙ w.have_before_read.ensures r.0 r.1
       | in_default w ↦ ready_none s v.lanes c.self.inside.index c.args.place c.args.item c.args.code.now.nodes r.0 (ap (λ (v : Inside). v.lanes) w.self-inside-is) w.in_default.is c.self.invariant c.len.ensures.seats r.1
     ]
     in
