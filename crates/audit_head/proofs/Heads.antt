@@ -1,5 +1,5 @@
 -- A head under way, and how its reading ends.
-use Rattle.std.proofs.Common.{◌≡◌, ◌≢◌, ◌↔◌, ◌<◌, ◌≤◌, inr, ℕ, ◌+◌, true, false, List, [], ◌∷◌, ◌++◌, length, nat_lt, Option, Some, None, Ok, Err, refl, sym, ap, ◌∙◌, subst, append_assoc, append-nil, length-append, arith}
+use Rattle.std.proofs.Common.{◌≡◌, ◌≢◌, ◌↔◌, ◌<◌, ◌≤◌, inl, inr, ℕ, ◌+◌, Bool, true, false, List, [], ◌∷◌, ◌++◌, length, nat_lt, Option, Some, None, Ok, Err, refl, sym, ap, ◌∙◌, subst, append_assoc, append-nil, length-append, arith}
 use Rattle.std.proofs.lemmas.Bool.Decides.{nat_tests}
 use Rattle.scc_text.specs.Lines.{lines_of}
 use Rattle.scc_text.specs.Reader.{Reader, opened_reader, IsPending, Answers}
@@ -16,26 +16,26 @@ use Rattle.audit_head.specs.declared.form.HeadEnd.{HeadEnd}
 use Rattle.audit_head.specs.declared.form.HeadEnd.TheVariants as ends
 use Rattle.audit_head.specs.Behind.{past_lines}
 use Rattle.audit_head.specs.Head.{form_named, after_line, head_by, head_from, head_of}
-use Rattle.audit_head.specs.Reading.{IsTail, HeadTold, HeadRead}
-use Rattle.audit_head.proofs.Behind.{tail-append, tail-line}
+use Rattle.audit_head.specs.Reading.{HeadTold, HeadRead}
+use Rattle.audit_head.proofs.Behind.{Edge, edge-line, edge-tail}
 
--- The lines that were answered made this batch, and none of them said what follows.
-pub record Heading (batch : Batch) (reader : Reader) (left_old left : Option (List ℕ)) : Type 0 where
+-- The lines that were answered, of so many bytes with a newline each, made this batch, and none of them said what follows.
+pub record Heading (batch : Batch) (spelled : ℕ) (reader : Reader) (left_old left : Option (List ℕ)) : Type 0 where
   pub read : List ℕ
   pub done : List (List ℕ)
   pub pending : List ℕ
   pub lines : LinesRead reader left_old left read done pending
-  pub tail : IsTail reader.ended read (length done) pending
+  pub edge : Edge spelled reader.ended read done pending
   pub made : (more : List (List ℕ)) → head_of (done ++ more) ≡ head_from batch (1 + length done) more
 
-pub heading-none : (batch : Batch) (reader : Reader) (left : Option (List ℕ)) → batch ≡ no_batch → reader ≡ opened_reader → Heading batch reader left left
+pub heading-none : (batch : Batch) (reader : Reader) (left : Option (List ℕ)) → batch ≡ no_batch → reader ≡ opened_reader → Heading batch 0 reader left left
 unfolding past_lines
 heading-none batch reader left empty opened = record {
   read = [];
   done = [];
   pending = [];
   lines = lines_read_opened reader left opened;
-  tail = λ more none. refl;
+  edge = inl (refl, tt, refl);
   made = λ more. ap (λ b. head_from b 1 more) (sym empty);
 }
 
@@ -62,12 +62,12 @@ next-made batch done line more made =
 held-is : (reader : Reader) (pending : List ℕ) → reader.skipping ≡ false → IsPending reader pending → pending ≡ reader.held
 held-is reader pending ready p = p.whole ∙ ap (λ front. front ++ reader.held) (p.kept ready)
 
-module _ (batch : Batch) (old new : Reader) (left_old left left_new : Option (List ℕ)) (got : List ℕ) (h : Heading batch old left_old left) where
+module _ (batch : Batch) (spelled : ℕ) (old new : Reader) (left_old left left_new : Option (List ℕ)) (got : List ℕ) (h : Heading batch spelled old left_old left) where
   -- the reader behind a line that was answered
   record HasLine (line : List ℕ) : Type 0 where
     pending : List ℕ
     lines : LinesRead new left_old left_new (h.read ++ got) (h.done ++ line ∷ []) pending
-    tail : IsTail new.ended (h.read ++ got) (length (h.done ++ line ∷ [])) pending
+    edge : Edge (spelled + (length line + 1)) new.ended (h.read ++ got) (h.done ++ line ∷ []) pending
 
   answered : Answers Line old new left left_new got → HasLine new.line
   answered answers =
@@ -76,14 +76,14 @@ module _ (batch : Batch) (old new : Reader) (left_old left left_new : Option (Li
       record {
         pending = more.0;
         lines = more.1;
-        tail = subst (λ rest. IsTail new.ended (h.read ++ got) (length (h.done ++ new.line ∷ [])) rest) (held-is new gives.0 answers.leaves gives.3 ∙ sym (held-is new more.0 answers.leaves more.1.held))
-            (subst (λ n. IsTail new.ended (h.read ++ got) n gives.0) (sym (more-lines h.done new.line))
-            (tail-line new.ended (h.read ++ got) (length h.done) (h.pending ++ got) new.line gives.0 (tail-append old.ended new.ended h.read (length h.done) h.pending got h.tail answers.closed) gives.1));
+        edge = subst (λ rest. Edge (spelled + (length new.line + 1)) new.ended (h.read ++ got) (h.done ++ new.line ∷ []) rest) (held-is new gives.0 answers.leaves gives.3 ∙ sym (held-is new more.0 answers.leaves more.1.held))
+            (edge-line spelled old.ended new.ended h.read h.done h.pending got new.line gives.0 h.edge answers.closed gives.1);
       }
 
   -- a line that is taken in
-  pub heading-line : (line : List ℕ) (next : Batch) → Answers Line old new left left_new got → line ≡ new.line → form_named line ≡ None → after_line batch line ≡ Ok next → Heading next new left_old left_new
-  heading-line line next answers same none after =
+  pub heading-line : (line : List ℕ) (next : Batch) (now : ℕ) → Answers Line old new left left_new got → line ≡ new.line → now ≡ spelled + (length line + 1) → form_named line ≡ None → after_line batch line ≡ Ok next
+      → Heading next now new left_old left_new
+  heading-line line next now answers same size none after =
       let named : form_named new.line ≡ None = ap form_named (sym same) ∙ none in
       let is : after_line batch new.line ≡ Ok next = ap (after_line batch) (sym same) ∙ after in
       let a = answered answers in
@@ -93,7 +93,7 @@ module _ (batch : Batch) (old new : Reader) (left_old left left_new : Option (Li
         done = h.done ++ new.line ∷ [];
         pending = a.pending;
         lines = a.lines;
-        tail = a.tail;
+        edge = subst (λ n. Edge n new.ended (h.read ++ got) (h.done ++ new.line ∷ []) a.pending) (sym (size ∙ ap (λ xs. spelled + (length xs + 1)) same)) a.edge;
         made = λ more.
             next-made batch h.done new.line more (h.made (new.line ∷ more))
             ∙ ap (λ f. head_by count batch f (after_line batch new.line) (λ b. head_from b (1 + count) more)) named
@@ -101,12 +101,14 @@ module _ (batch : Batch) (old new : Reader) (left_old left left_new : Option (Li
       }
 
   -- the last line of the head
-  pub head-named : (line : List ℕ) (to : Batch) (form : Form) → Answers Line old new left left_new got → line ≡ new.line → form_named line ≡ Some form → to ≡ batch
-      → HeadRead (Ok (to, form)) new left_old left_new
-  head-named line to form answers same is kept =
+  pub head-named : (line : List ℕ) (to : Batch) (form : Form) (now : ℕ) (goes_on : Bool) → Answers Line old new left left_new got → line ≡ new.line → now ≡ spelled + (length line + 1)
+      → (goes_on ≡ true → now ≤ new.taken) → (goes_on ≡ false → new.taken < now) → form_named line ≡ Some form → to ≡ batch → HeadRead (Ok (to, form, goes_on)) new left_old left_new
+  head-named line to form now goes_on answers same size goes stops is kept =
       let named : form_named new.line ≡ Some form = ap form_named (sym same) ∙ is in
       let a = answered answers in
       let count : ℕ = length (h.done ++ new.line ∷ []) in
+      let edge = subst (λ n. Edge n new.ended (h.read ++ got) (h.done ++ new.line ∷ []) a.pending) (sym (size ∙ ap (λ xs. spelled + (length xs + 1)) same)) a.edge in
+      let tail = edge-tail now goes_on new left_old left_new (h.read ++ got) (h.done ++ new.line ∷ []) a.pending a.lines goes stops edge in
       record {
         read = h.read ++ got;
         took = a.lines.took;
@@ -116,7 +118,8 @@ module _ (batch : Batch) (old new : Reader) (left_old left left_new : Option (Li
           pending = a.pending;
           lines = a.lines;
           ready = answers.leaves;
-          tail = a.tail;
+          tail = tail.0;
+          all = tail.1;
           head = λ more.
               next-made batch h.done new.line more (h.made (new.line ∷ more))
               ∙ ap (λ f. head_by count batch f (after_line batch new.line) (λ b. head_from b (1 + count) more)) named
