@@ -1,5 +1,5 @@
 -- What each mode has done is what the top calls promise of it.
-use Rattle.std.proofs.Common.{◌≡◌, ◌≢◌, ℕ, List, [], length, get_or, Option, Some, None, sym, ap, ◌∙◌, subst, arith}
+use Rattle.std.proofs.Common.{◌≡◌, ◌≢◌, inl, inr, ℕ, List, [], length, get_or, Option, Some, None, sym, ap, ◌∙◌, subst, arith}
 use Rattle.scc_ports.specs.Ports.{Rose}
 use Rattle.scc_replies.specs.declared.status.Status.{Status}
 use Rattle.scc_replies.specs.declared.status.Status.TheVariants as status
@@ -10,9 +10,10 @@ use Rattle.scc_script.specs.Ran.{ScriptRan, status_of}
 use Rattle.serial_text.specs.Told.{PrintedSerially}
 use Rattle.scc_batch.specs.Told.{Batched}
 use Rattle.scc_batch.proofs.Ends.{never-bad-words, never-audit}
+use Rattle.scc_audit.specs.Told.{Tells, AuditTold}
 use Rattle.scc.specs.declared.words.Mode.TheVariants as mode
 use Rattle.scc.specs.Generated.{HasGenerated}
-use Rattle.scc.specs.Words.{SpellsNumber, SpellsScript, SpellsBatch, SpellsGen, Spells, SpellsAlone}
+use Rattle.scc.specs.Words.{SpellsNumber, SpellsScript, SpellsBatch, SpellsAudit, SpellsGen, Spells, SpellsAlone}
 use Rattle.scc.specs.Served.{Outside, Served}
 
 -- Words name one mode alone.
@@ -56,6 +57,15 @@ script-no-batch words k lanes k' lanes' workers a b = omega (arith, ap length (s
 gen-no-batch : (words : List (List ℕ)) (seed count k lanes workers : ℕ) → SpellsGen words seed count → ¬ SpellsBatch words k lanes workers
 gen-no-batch words seed count k lanes workers a b = omega (arith, ap length (sym a.spelled ∙ b.spelled))
 
+script-no-audit : (words : List (List ℕ)) (k lanes : ℕ) → SpellsScript words k lanes → ¬ SpellsAudit words
+script-no-audit words k lanes a b = omega (arith, ap length (sym a.spelled ∙ b))
+
+batch-no-audit : (words : List (List ℕ)) (k lanes workers : ℕ) → SpellsBatch words k lanes workers → ¬ SpellsAudit words
+batch-no-audit words k lanes workers a b = omega (arith, ap length (sym a.spelled ∙ b))
+
+gen-no-audit : (words : List (List ℕ)) (seed count : ℕ) → SpellsGen words seed count → ¬ SpellsAudit words
+gen-no-audit words seed count a b = omega (arith, ap length (sym a.spelled ∙ b))
+
 -- Ends that a mode never has.
 
 script-bad_words : (ending : Ending) → status_of ending ≢ status.BadWords
@@ -74,13 +84,13 @@ script-bad_input ending.WriteFault line is = cc
 script-bad_input ending.OutOfMemory line is = cc
 script-bad_input ending.InputLimit line is = cc
 
-script-no_audit : (ending : Ending) (line : ℕ) → status_of ending ≢ status.AuditNo line
-script-no_audit ending.Done line is = cc
-script-no_audit ending.Stopped line is = cc
-script-no_audit ending.ReadFault line is = cc
-script-no_audit ending.WriteFault line is = cc
-script-no_audit ending.OutOfMemory line is = cc
-script-no_audit ending.InputLimit line is = cc
+script-audit_no : (ending : Ending) (line : ℕ) → status_of ending ≢ status.AuditNo line
+script-audit_no ending.Done line is = cc
+script-audit_no ending.Stopped line is = cc
+script-audit_no ending.ReadFault line is = cc
+script-audit_no ending.WriteFault line is = cc
+script-audit_no ending.OutOfMemory line is = cc
+script-audit_no ending.InputLimit line is = cc
 
 -- The calls of each mode.
 
@@ -97,6 +107,7 @@ script-served words k lanes answer before after spelled ran read_fault write_fau
           subst (λ k. (read : List ℕ) × ScriptRan k lanes' answer read before.left after.left before.written after.written before.steps after.steps × PrintedSerially answer read before.written after.written) same.0
           (subst (λ lanes. (read : List ℕ) × ScriptRan k lanes answer read before.left after.left before.written after.written before.steps after.steps × PrintedSerially answer read before.written after.written) same.1 ran);
       batch = λ _ _ _ none. absurd none;
+      audit = λ other. absurd (script-no-audit words k lanes spelled other);
       gen = λ seed count other. absurd (script-no-gen words k lanes seed count spelled other);
       bad_words = λ bad. absurd (script-bad_words end (sym is ∙ bad));
       good_words = λ _ _ bad. script-bad_words end (sym is ∙ bad);
@@ -104,7 +115,7 @@ script-served words k lanes answer before after spelled ran read_fault write_fau
       read_fault = read_fault;
       write_fault = write_fault;
       bad_input = λ line bad. absurd (script-bad_input end line (sym is ∙ bad));
-      no_audit = λ line bad. script-no_audit end line (sym is ∙ bad);
+      audit_no = λ line no. absurd (script-audit_no end line (sym is ∙ no));
     }
 
 pub gen-served : (words : List (List ℕ)) (seed count : ℕ) (answer : Status) (before after : Outside) → SpellsGen words seed count
@@ -117,6 +128,7 @@ gen-served words seed count answer before after spelled made left faults steps w
     record {
       script = λ k lanes other. absurd (script-no-gen words k lanes seed count other spelled);
       batch = λ _ _ _ none. absurd none;
+      audit = λ other. absurd (gen-no-audit words seed count spelled other);
       gen = λ seed' count' spelled'.
           let same = same-gen words seed count seed' count' spelled spelled' in (
             subst (λ seed. HasGenerated answer seed count' before.written after.written) same.0
@@ -131,7 +143,7 @@ gen-served words seed count answer before after spelled made left faults steps w
       read_fault = λ bad. absurd (never status.ReadFault (λ none. none) bad);
       write_fault = write_fault;
       bad_input = λ line bad. absurd (never (status.BadInput line) (λ none. none) bad);
-      no_audit = λ line bad. never (status.AuditNo line) (λ none. none) bad;
+      audit_no = λ line no. absurd (never (status.AuditNo line) (λ none. none) no);
     }
 
 pub batch-served : (words : List (List ℕ)) (k lanes workers : ℕ) (answer : Status) (before after : Outside) → SpellsBatch words k lanes workers
@@ -145,12 +157,34 @@ batch-served words k lanes workers answer before after spelled ran read_fault wr
     record {
       script = λ k' lanes' other. absurd (script-no-batch words k' lanes' k lanes workers other spelled);
       batch = λ _ _ _ _. ran;
+      audit = λ other. absurd (batch-no-audit words k lanes workers spelled other);
       gen = λ seed count other. absurd (gen-no-batch words seed count k lanes workers other spelled);
       bad_words = λ bad. absurd (no-bad_words bad);
       good_words = λ _ _. no-bad_words;
       other_words = λ none. absurd (none (mode.Batch k lanes workers) spelled);
       read_fault = read_fault;
       write_fault = write_fault;
-      bad_input = λ line bad. (k, lanes, workers, spelled);
-      no_audit = λ line. never (status.AuditNo line) (never-audit line ran.0 before.left after.left before.written after.written);
+      bad_input = λ line bad. inl (k, lanes, workers, spelled);
+      audit_no = λ line no. absurd (never (status.AuditNo line) (never-audit line ran.0 before.left after.left before.written after.written) no);
+    }
+
+pub audit-served : (words : List (List ℕ)) (answer : Status) (before after : Outside) → SpellsAudit words
+    → ((read : List ℕ) × AuditTold answer read before.left after.left before.written after.written)
+    → (answer ≡ status.ReadFault → Rose before.read_faults after.read_faults) → (answer ≡ status.WriteFault → Rose before.write_faults after.write_faults)
+    → Served (SpellsAlone words) answer before after
+audit-served words answer before after spelled told read_fault write_fault =
+    let no-bad_words : answer ≢ status.BadWords =
+    λ is. subst (λ s. Tells s told.0 after.left before.written after.written) is told.1.told in
+    record {
+      script = λ k lanes other. absurd (script-no-audit words k lanes other spelled);
+      batch = λ _ _ _ none. absurd none;
+      audit = λ _. told;
+      gen = λ seed count other. absurd (gen-no-audit words seed count other spelled);
+      bad_words = λ bad. absurd (no-bad_words bad);
+      good_words = λ _ _. no-bad_words;
+      other_words = λ none. absurd (none mode.Audit spelled);
+      read_fault = read_fault;
+      write_fault = write_fault;
+      bad_input = λ _ _. inr spelled;
+      audit_no = λ _ _. spelled;
     }

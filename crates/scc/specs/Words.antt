@@ -2,7 +2,7 @@
 use Rattle.std.specs.Prelude.{◌≡◌, ℕ, ◌≤◌, List, [], ◌∷◌, length, codes, Some}
 use Rattle.scc_text.specs.Number.{natural_of}
 use Rattle.scc.specs.declared.words.Mode.{Mode}
-use Rattle.scc.specs.declared.words.Mode.TheVariants.{Script, Batch, Gen}
+use Rattle.scc.specs.declared.words.Mode.TheVariants.{Script, Batch, Audit, Gen}
 
 -- a number among the words: 1 to 10 digits, within a range
 pub record SpellsNumber (word : List ℕ) (least most number : ℕ) : Type 0 where
@@ -29,6 +29,10 @@ pub record SpellsBatch (words : List (List ℕ)) (k lanes workers : ℕ) : Type 
   pub width : SpellsNumber second 1 64 lanes
   pub threads : SpellsNumber third 1 16 workers
 
+-- `audit`, and no more words
+abbrev pub SpellsAudit : List (List ℕ) → Type 0
+SpellsAudit words = words ≡ codes "audit" ∷ []
+
 -- `gen SEED COUNT`: a seed of at most 65,536, and 1 to 20,000 programs
 pub record SpellsGen (words : List (List ℕ)) (seed count : ℕ) : Type 0 where
   pub first : List ℕ
@@ -41,10 +45,12 @@ pub record SpellsGen (words : List (List ℕ)) (seed count : ℕ) : Type 0 where
 abbrev pub Spells : List (List ℕ) → Mode → Type 0
 Spells words (Script k lanes) = SpellsScript words k lanes
 Spells words (Batch k lanes workers) = SpellsBatch words k lanes workers
+Spells words Audit = SpellsAudit words
 Spells words (Gen seed count) = SpellsGen words seed count
 
 -- the words name this mode, and it needs one thread alone
 abbrev pub SpellsAlone : List (List ℕ) → Mode → Type 0
 SpellsAlone words (Script k lanes) = SpellsScript words k lanes
 SpellsAlone words (Batch k lanes workers) = ⊥
+SpellsAlone words Audit = SpellsAudit words
 SpellsAlone words (Gen seed count) = SpellsGen words seed count

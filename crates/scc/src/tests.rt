@@ -18,17 +18,17 @@ const REPLY_1: &[u8] =
 
 // A run: its input, how many bytes a call moves, which calls fail, and what must come of it.
 #[derive(Clone, Copy)]
-struct Case<'a> {
-    input: &'a [u8],
-    most: usize,
-    source_fails: &'a [u32],
-    sink_fails: &'a [u32],
-    status: Status,
-    written: &'a [u8],
+pub struct Case<'a> {
+    pub input: &'a [u8],
+    pub most: usize,
+    pub source_fails: &'a [u32],
+    pub sink_fails: &'a [u32],
+    pub status: Status,
+    pub written: &'a [u8],
 }
 
 // A run that no call of the source or the sink disturbs.
-fn plain<'a>(input: &'a [u8], written: &'a [u8]) -> Case<'a> {
+pub fn plain<'a>(input: &'a [u8], written: &'a [u8]) -> Case<'a> {
     Case {
         input,
         most: 1000,
@@ -68,7 +68,7 @@ fn status_over<R: Threads + Wait + Sync + AllocGlobal, S: Source>(
 }
 
 // Whether the words and the case's input end as the case says, with what it says written.
-fn ends_so<R: Threads + Wait + Sync + AllocGlobal>(
+pub fn ends_so<R: Threads + Wait + Sync + AllocGlobal>(
     rt: &R,
     words: &[&str],
     case: Case<'_>,
@@ -87,6 +87,17 @@ fn ends_so<R: Threads + Wait + Sync + AllocGlobal>(
 
 const SCRIPT: [&str; 3] = ["script", "1", "1"];
 
+// Whether they end so in large pieces, and byte by byte.
+pub fn ends_alike<R: Threads + Wait + Sync + AllocGlobal>(
+    rt: &R,
+    words: &[&str],
+    case: Case<'_>,
+) -> Result<bool, AllocError> {
+    let whole = ends_so(rt, words, case)?;
+    let bytewise = ends_so(rt, words, Case { most: 1, ..case })?;
+    Ok(whole && bytewise)
+}
+
 // The words and the input give this output, in pieces of any size.
 pub fn gives<R: Threads + Wait + Sync + AllocGlobal>(
     rt: &R,
@@ -94,10 +105,7 @@ pub fn gives<R: Threads + Wait + Sync + AllocGlobal>(
     input: &[u8],
     written: &[u8],
 ) -> Result<bool, AllocError> {
-    let case = plain(input, written);
-    let whole = ends_so(rt, words, case)?;
-    let bytewise = ends_so(rt, words, Case { most: 1, ..case })?;
-    Ok(whole && bytewise)
+    ends_alike(rt, words, plain(input, written))
 }
 
 #[test]
@@ -428,6 +436,8 @@ fn words_name_a_mode(rt: HostRuntime) -> Result<(), Fail> {
     ] {
         assert!(rt; ends_so(&rt, &mode, bad)?);
     }
+    assert!(rt; ends_so(&rt, &["audit", "1"], bad)?);
+    assert!(rt; ends_so(&rt, &["Audit"], bad)?);
     assert!(rt; ends_so(&rt, &[], bad)?);
     Ok(())
 }

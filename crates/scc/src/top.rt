@@ -9,6 +9,7 @@ ghost use Rattle.scc.specs.Exit.{exit_code_of};
 ghost use Rattle.scc.specs.Words.{Spells, SpellsAlone, SpellsBatch, SpellsGen};
 
 use crate::words::{BadWords, Mode, read_words};
+use scc_audit::audit_input;
 use scc_batch::batch;
 use scc_gen::put_gen;
 use scc_ports::{Gate, Sink, Source, write_all};
@@ -54,14 +55,15 @@ fn batch_words(words: &[String]) -> Option<(u32, u32, u32)>
     match read_words(words) {
         Ok(Mode::Batch { k, lanes, workers }) => Some((k, lanes, workers)),
         Ok(Mode::Script { .. }) => None,
+        Ok(Mode::Audit) => None,
         Ok(Mode::Gen { .. }) => None,
         Err(BadWords) => None,
     }
 }
 
-/// Does what the words ask for, where that needs no thread: `script K LANES` ends as `scc_script::script`, and `gen SEED COUNT` with
-/// the generator's text written, in one piece, and nothing read. It always returns. `BadWords` exactly where the words name neither,
-/// with nothing done: also for `batch`, which needs threads.
+/// Does what the words ask for, where that needs no thread: `script K LANES` ends as `scc_script::script`, `audit` as
+/// `scc_audit::audit_input`, and `gen SEED COUNT` with the generator's text written, in one piece, and nothing read. It always returns.
+/// `BadWords` exactly where the words name none of these, with nothing done: also for `batch`, which needs threads.
 pub fn scc_plain<S: Source, K: Sink, L: Ledger>(
     alloc: Global,
     words: &[String],
@@ -77,6 +79,7 @@ pub fn scc_plain<S: Source, K: Sink, L: Ledger>(
 {
     match read_words(words) {
         Ok(Mode::Script { k, lanes }) => serial_script(alloc, k, lanes, source, sink, steps),
+        Ok(Mode::Audit) => audit_input(alloc, source, sink, steps),
         Ok(Mode::Gen { seed, count }) => generate(alloc, seed, count, sink),
         Ok(Mode::Batch { .. }) => Status::BadWords,
         Err(BadWords) => Status::BadWords,

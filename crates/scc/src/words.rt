@@ -12,6 +12,8 @@ pub enum Mode {
     /// Runs a whole input as one batch, with at most `k` shadows a transaction, 1 to 8, so many lanes, 1 to 64, and so many workers, 1
     /// to 16.
     Batch { k: u32, lanes: u32, workers: u32 },
+    /// Says whether the report or the journal behind tables and programs is right, or which line is the first that isn't.
+    Audit,
     /// Writes the generator's text for a seed of at most 65,536 and so many programs, 1 to 20,000.
     Gen { seed: u32, count: u32 },
 }
@@ -20,13 +22,14 @@ pub enum Mode {
 #[derive(Clone, Copy, Debug, PartialEq, Eq)]
 pub struct BadWords;
 
-/// The mode that the words name: `script`, K from 1 to 8 and LANES from 1 to 64; `batch`, these two and WORKERS from 1 to 16; or `gen`,
-/// SEED from 0 to 65,536 and COUNT from 1 to 20,000. Each number has 1 to 10 digits. `BadWords` exactly where they name none.
+/// The mode that the words name: `script`, K from 1 to 8 and LANES from 1 to 64; `batch`, these two and WORKERS from 1 to 16; `audit`
+/// alone; or `gen`, SEED from 0 to 65,536 and COUNT from 1 to 20,000. Each number has 1 to 10 digits. `BadWords` exactly where they name none.
 pub fn read_words(words: &[String]) -> Result<Mode, BadWords>
     ensures ok { IfOk result (λ mode. Spells (map string_bytes words.now) mode) }
     ensures err { OnErr result ((mode : Mode) → ¬ Spells (map string_bytes words.now) mode) }
 {
     match words {
+        [mode] => read_lone_mode(mode.as_str()),
         [mode, first, second] => read_mode(mode.as_str(), first.as_str(), second.as_str()),
         [mode, first, second, third] => {
             read_long_mode(
@@ -37,6 +40,18 @@ pub fn read_words(words: &[String]) -> Result<Mode, BadWords>
             )
         }
         _ => Err(BadWords),
+    }
+}
+
+// A mode without numbers.
+fn read_lone_mode(mode: &str) -> Result<Mode, BadWords>
+    ensures ok { IfOk result (λ found. Spells (mode.now ∷ []) found) }
+    ensures err { OnErr result ((found : Mode) → ¬ Spells (mode.now ∷ []) found) }
+{
+    if mode == "audit" {
+        Ok(Mode::Audit)
+    } else {
+        Err(BadWords)
     }
 }
 

@@ -1,15 +1,20 @@
 use Rattle.std.proofs.Common.{map, refl, subst}
 use Rattle.std.specs.Prelude.{string_bytes}
-use Rattle.scc.specs.declared.words.Mode.TheVariants.{Script, Gen}
+use Rattle.scc.specs.declared.words.Mode.TheVariants.{Script, Audit, Gen}
 use Rattle.scc.specs.Words.{Spells}
 use Rattle.scc.proofs.Modes.{alone-spells}
-use Rattle.scc.proofs.Serving.{script-served, gen-served}
+use Rattle.scc.proofs.Serving.{script-served, audit-served, gen-served}
 use Rattle.scc.proofs.top.scc_plain.Goals as goal
 
 pub returns-in-Ok-Script-clause-served : goal.returns-in-Ok-Script-clause-served
 returns-in-Ok-Script-clause-served g c =
     let run = c.serial_script.ensures in
     script-served (map string_bytes c.args.words.now) c.in-Ok-Script.k c.in-Ok-Script.lanes _ _ _ (subst (Spells (map string_bytes c.args.words.now)) c.in-Ok-Script.field-0-is c.in-Ok-Script.ensures.ok) run.ran run.read_fault run.write_fault
+
+pub returns-in-Ok-Audit-clause-served : goal.returns-in-Ok-Audit-clause-served
+returns-in-Ok-Audit-clause-served g c =
+    let audited = c.audit_input.ensures in
+    audit-served (map string_bytes c.args.words.now) _ _ _ (subst (Spells (map string_bytes c.args.words.now)) c.in-Ok-Audit.field-0-is c.in-Ok-Audit.ensures.ok) audited.told audited.read_fault audited.write_fault
 
 pub returns-in-Ok-Gen-clause-served : goal.returns-in-Ok-Gen-clause-served
 returns-in-Ok-Gen-clause-served g c =
@@ -21,6 +26,7 @@ returns-in-Err-clause-served g c =
     record {
       script = λ k lanes spelled. absurd (none (Script k lanes) spelled);
       batch = λ k lanes workers spelled. absurd spelled;
+      audit = λ spelled. absurd (none Audit spelled);
       gen = λ seed count spelled. absurd (none (Gen seed count) spelled);
       bad_words = λ _ mode spelled. none mode (alone-spells _ mode spelled);
       good_words = λ mode spelled. absurd (none mode (alone-spells _ mode spelled));
@@ -28,5 +34,5 @@ returns-in-Err-clause-served g c =
       read_fault = λ is. absurd (cc);
       write_fault = λ is. absurd (cc);
       bad_input = λ line is. absurd (cc);
-      no_audit = λ line is. cc;
+      audit_no = λ line is. absurd (cc);
     }
