@@ -1,3 +1,4 @@
+pub mod Prepared
 pub mod Answers
 pub mod Talks
 pub mod Ran

@@ -5,9 +5,11 @@
 
 mod answers;
 mod end;
+mod preparing;
 mod run;
 mod talker;
 mod wish;
 
 pub use end::SessionEnd;
+pub use preparing::prepare;
 pub use run::session;
