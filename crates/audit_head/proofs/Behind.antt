@@ -90,20 +90,20 @@ edge-line spelled old new read done pending got line rest (inl whole) closed beg
     let all : read ++ got ≡ with_newlines done ++ (pending ++ got) = ap (λ xs. xs ++ got) whole.0 ∙ append_assoc (with_newlines done) pending got in
     elim begins.cut [
       | inl cut ↦ inl (
-          all ∙ ap (λ xs. with_newlines done ++ xs) cut ∙ sym (newlines-more done line rest),
-          are-more done line whole.1 begins.one_line,
-          (let size : length (with_newlines (done ++ line ∷ []) ++ []) ≡ length (with_newlines done ++ (line ++ 10 ∷ [])) = ap (λ xs. length xs) (newlines-more done line []) in
-          omega (arith, whole.2, size, length-append (with_newlines (done ++ line ∷ [])) [], length-append (with_newlines done) (line ++ 10 ∷ []), length-append line (10 ∷ []))),
-        )
+        all ∙ ap (λ xs. with_newlines done ++ xs) cut ∙ sym (newlines-more done line rest),
+        are-more done line whole.1 begins.one_line,
+        (let size : length (with_newlines (done ++ line ∷ []) ++ []) ≡ length (with_newlines done ++ (line ++ 10 ∷ [])) = ap (λ xs. length xs) (newlines-more done line []) in
+            omega (arith, whole.2, size, length-append (with_newlines (done ++ line ∷ [])) [], length-append (with_newlines done) (line ++ 10 ∷ []), length-append line (10 ∷ []))),
+      )
       | inr last ↦ inr (
-          (let size : length (read ++ got) ≡ length (with_newlines done ++ line) = ap (λ xs. length xs) (all ∙ ap (λ xs. with_newlines done ++ xs) last.0) in
-          omega (arith, whole.2, size, length-append (with_newlines done) line)),
-          last.3,
-          last.2,
-          ap (λ n. past_lines n (read ++ got)) (length-append done (line ∷ [])) ∙ past-more (length done) (read ++ got)
-              ∙ ap (λ xs. past_newline (past_lines (length done) xs)) (all ∙ ap (λ xs. with_newlines done ++ xs) last.0) ∙ ap past_newline (past-behind done line whole.1)
-              ∙ past-none line begins.one_line,
-        )
+        (let size : length (read ++ got) ≡ length (with_newlines done ++ line) = ap (λ xs. length xs) (all ∙ ap (λ xs. with_newlines done ++ xs) last.0) in
+            omega (arith, whole.2, size, length-append (with_newlines done) line)),
+        last.3,
+        last.2,
+        ap (λ n. past_lines n (read ++ got)) (length-append done (line ∷ [])) ∙ past-more (length done) (read ++ got)
+            ∙ ap (λ xs. past_newline (past_lines (length done) xs)) (all ∙ ap (λ xs. with_newlines done ++ xs) last.0) ∙ ap past_newline (past-behind done line whole.1)
+            ∙ past-none line begins.one_line,
+      )
     ]
 edge-line spelled old new read done pending got line rest (inr last) closed begins =
     absurd (begins-none new (pending ++ got) line rest (ap (λ xs. xs ++ got) last.2 ∙ (closed last.1).0) begins)
@@ -123,8 +123,7 @@ edge-tail spelled goes_on reader left_old left read done pending lines goes stop
 )
 edge-tail spelled goes_on reader left_old left read done pending lines goes stops (inr last) = (
   (λ more none.
-      let no_more : more ≡ [] = none (false_unless goes_on (λ is. let within = goes is in omega (arith, lines.count, last.0, within))) in
-      (
+      let no_more : more ≡ [] = none (false_unless goes_on (λ is. let within = goes is in omega (arith, lines.count, last.0, within))) in (
         lines.cut.lines more (λ _. no_more),
         ap (λ xs. past_lines (length done) (read ++ xs)) no_more ∙ ap (past_lines (length done)) (append-nil read) ∙ last.3 ∙ sym (ap (λ xs. xs ++ more) last.2 ∙ no_more),
       )),

@@ -38,7 +38,7 @@ returns-in-Ok-Some-clause-read g c =
     let size : c.lines.spelled + (length c.line.result.now + 1) ≡ c.lines.spelled + (length c.line-in-Line.result.now + 1) = ap (λ xs. c.lines.spelled + (length xs + 1)) (c.line.ensures ∙ sym c.line-in-Line.ensures) in
     let takes = subst (λ o. Takes (Ok o) c.lines.input c.line-in-Line.result.now c.take_line.new.input) c.in-Ok-Some.field-0-is c.in-Ok-Some.ensures in
     head-named _ _ _ _ _ _ _ answers.0 c.lines.invariant.heading c.line-in-Line.result.now c.take_line.new.input c.in-Ok-Some.form _ _ answers.1 c.line-in-Line.ensures size (λ is. let test : nat_le (c.lines.spelled + (length c.line.result.now + 1)) c.taken.result ≡ true = is in grind (arith, nat_tests, c.taken.ensures))
-        (λ is. let test : nat_le (c.lines.spelled + (length c.line.result.now + 1)) c.taken.result ≡ false = is in grind (arith, nat_tests, c.taken.ensures)) takes.0 takes.1
+    (λ is. let test : nat_le (c.lines.spelled + (length c.line.result.now + 1)) c.taken.result ≡ false = is in grind (arith, nat_tests, c.taken.ensures)) takes.0 takes.1
 
 pub returns-in-Err-Code-clause-read : goal.returns-in-Err-Code-clause-read
 returns-in-Err-Code-clause-read g c =
