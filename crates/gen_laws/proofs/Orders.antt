@@ -224,7 +224,7 @@ counted (u ∷ us) = ap (λ z. pos 1 +ℤ z) (counted us) ∙ omega (arith, ints
 
 -- In every order.
 
-within : (count : ℕ) (order : List ℕ) → NamesEachOnce count order → (t : ℕ) → (has order t ≡ true) ↔ ((1 ≤ t) × (t < 1 + count))
+pub within : (count : ℕ) (order : List ℕ) → NamesEachOnce count order → (t : ℕ) → (has order t ≡ true) ↔ ((1 ≤ t) × (t < 1 + count))
 within count order once t = (
   (λ there. let low = ((once.each t).0 there).0 in let high = ((once.each t).0 there).1 in (low, omega (arith, high))),
   (λ both. let low = both.0 in let high = both.1 in (once.each t).1 (low, omega (arith, high))),
@@ -242,10 +242,10 @@ no_transfer = record { from = 0; to = 0; amount = 0; turns = 0; deadline = 0 }
 abbrev pub ordered : List Transfer → List ℕ → List Transfer
 ordered ts order = map (pick 1 no_transfer ts) order
 
-abbrev AreWithin : ℕ → List ℕ → Type 0
+abbrev pub AreWithin : ℕ → List ℕ → Type 0
 AreWithin count us = AllByRecursion (λ k. (1 ≤ k) × (k < 1 + count)) us
 
-all-within : (count : ℕ) (us : List ℕ) → ((t : ℕ) → has us t ≡ true → (1 ≤ t) × (t < 1 + count)) → AreWithin count us
+pub all-within : (count : ℕ) (us : List ℕ) → ((t : ℕ) → has us t ≡ true → (1 ≤ t) × (t < 1 + count)) → AreWithin count us
 all-within count [] h = tt
 all-within count (u ∷ us) h = (h u (first-there u us), all-within count us (λ t there. h t (ap (λ b. (u == t) || b) there ∙ or-true (u == t))))
   where
@@ -253,13 +253,13 @@ all-within count (u ∷ us) h = (h u (first-there u us), all-within count us (λ
     or-true true = refl
     or-true false = refl
 
-programs-ordered : (ts : List Transfer) (us : List ℕ) → AreWithin (length ts) us → map (program_named (numbered 1 (map program ts))) us ≡ map program (ordered ts us)
+pub programs-ordered : (ts : List Transfer) (us : List ℕ) → AreWithin (length ts) us → map (program_named (numbered 1 (map program ts))) us ≡ map program (ordered ts us)
 programs-ordered ts [] h = refl
 programs-ordered ts (u ∷ us) h =
     ap (λ p. p ∷ map (program_named (numbered 1 (map program ts))) us) (picked 1 u no_transfer ts h.0.0 h.0.1)
     ∙ ap (λ ps. program (pick 1 no_transfer ts u) ∷ ps) (programs-ordered ts us h.1)
 
-small-ordered : (ts : List Transfer) (us : List ℕ) → AreSmall ts → AreWithin (length ts) us → AreSmall (ordered ts us)
+pub small-ordered : (ts : List Transfer) (us : List ℕ) → AreSmall ts → AreWithin (length ts) us → AreSmall (ordered ts us)
 small-ordered ts [] small h = tt
 small-ordered ts (u ∷ us) small h = (pick-small 1 u no_transfer ts small h.0.0 h.0.1, small-ordered ts us small h.1)
 
@@ -267,11 +267,11 @@ shifts-ordered : (ts : List Transfer) (us : List ℕ) → shifts (ordered ts us)
 shifts-ordered ts [] = refl
 shifts-ordered ts (u ∷ us) = ap (λ z. shift (pick 1 no_transfer ts u) +ℤ z) (shifts-ordered ts us)
 
-length-ordered : (ts : List Transfer) (us : List ℕ) → length (ordered ts us) ≡ length us
+pub length-ordered : (ts : List Transfer) (us : List ℕ) → length (ordered ts us) ≡ length us
 length-ordered ts [] = refl
 length-ordered ts (u ∷ us) = ap suc (length-ordered ts us)
 
-zeros-near : (n : ℕ) → AreNear 0 (replicate n (pos 0))
+pub zeros-near : (n : ℕ) → AreNear 0 (replicate n (pos 0))
 zeros-near zero = tt
 zeros-near (suc n) = (record { low = omega (arith, ints); high = omega (arith, ints) }, zeros-near n)
 
@@ -308,3 +308,19 @@ every-order ts order small few once =
   where
     added : (a b c : ℤ) → a ≡ pos 0 → b ≡ c → a +ℤ b ≡ c
     added a b c none same = omega (arith, ints)
+
+-- transfers in the order in which they are listed
+pub line-order : (ts : List Transfer) → AreSmall ts → length ts ≤ 20000 → ComesTo ts (map program ts)
+line-order ts small few =
+    let run : Runs ts zeros 0 = runs ts zeros 0 small (length-replicate 64 (pos 0)) (zeros-near 64) (omega (arith, few)) in
+    let first = zeros-weigh 64 1 in
+    record {
+      done = subst (λ os. AllByRecursion (λ outcome. is_done outcome ≡ true) os) (sym run.outcomes) (all-done ts);
+      sum = run.sum ∙ zeros-sum 64;
+      weighted = run.weighted ∙ added (weighted zeros) (shifts ts) first;
+      items = run.items ∙ length-replicate 64 (pos 0);
+      near = all-nearer (0 + 18 * length ts) 400000 (last_tables zeros (map program ts)) (omega (arith, few)) run.near;
+    }
+  where
+    added : (a b : ℤ) → a ≡ pos 0 → a +ℤ b ≡ b
+    added a b none = omega (arith, ints)
