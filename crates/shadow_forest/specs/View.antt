@@ -1,5 +1,5 @@
 -- A forest as its user sees it: in numbers, and what the last commit or withdrawal told.
-use Rattle.std.specs.Prelude.{ℕ, zero, suc, List, [], Option, Some, None, Result, Ok, Err}
+use Rattle.std.specs.Prelude.{◌≡◌, ◌≤◌, ℕ, zero, suc, List, [], Option, Some, None, Result, Ok, Err}
 use Rattle.txn_runs.specs.Run.{Tables}
 use Rattle.forest_model.specs.Forest.{Started, Forest, find_started}
 use Rattle.forest_model.specs.Start.{next_to_start}
@@ -19,6 +19,10 @@ pub record View : Type 0 where
 -- a forest over these tables in which nothing happened
 abbrev pub opened_view : Tables → ℕ → ℕ → View
 opened_view tables k lanes = record { numbers = (opened tables k lanes).forest; resumed = []; starts = None }
+
+-- a forest over these tables in which nothing happened, for a number of shadows from 1 to k
+abbrev pub IsOpenedLean : Tables → ℕ → ℕ → View → Type 0
+IsOpenedLean tables k lanes v = (granted : ℕ) × (1 ≤ granted) × (granted ≤ k) × (v ≡ opened_view tables granted lanes)
 
 -- the same told, of another forest
 abbrev pub with_numbers : Forest → View → View

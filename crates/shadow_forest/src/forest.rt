@@ -1,6 +1,6 @@
 mod running;
 
-ghost use Rattle.std.specs.Prelude.{◌≡◌, ◌+◌, ◌≤◌, ◌<◌, ◌↔◌, ℕ, true, false, None, Some, Err, length, map, slice_get, option_map, IsOk, IfOk, IfErr, IfSome, OnOk, OnErr};
+ghost use Rattle.std.specs.Prelude.{[], ◌≡◌, ◌+◌, ◌≤◌, ◌<◌, ◌↔◌, ℕ, true, false, None, Some, Err, length, map, slice_get, option_map, IsOk, IfOk, IfErr, IfSome, OnOk, OnErr};
 ghost use Rattle.std.specs.List.{AllByRecursion};
 ghost use Rattle.txn_runs.specs.Bounds.{reach};
 ghost use Rattle.txn_runs.specs.Serial.{outcome_of};
@@ -14,7 +14,7 @@ ghost use Rattle.forest_model.specs.Sound.{IsSound, IsHome, IsIdle};
 ghost use Rattle.forest_model.specs.Events.{begin as begin_of, seal as seal_of, step as step_of, commit as commit_of, withdraw as withdraw_of, step_role, committed};
 ghost use Rattle.forest_model.specs.Drain.{after_step, run_idle as run_idle_of, first_ended as first_ended_of, drain_step as drain_step_of, until_commit, drain as drain_of, gate_by, gate_step as gate_step_of, state_of};
 ghost use Rattle.forest_model.specs.Jobs.{recall as recall_of};
-ghost use Rattle.shadow_forest.specs.View.{View, opened_view, with_numbers, commit_view, withdraw_view, gate_step_view, drain_step_view, drain_view, told_commit};
+ghost use Rattle.shadow_forest.specs.View.{View, opened_view, IsOpenedLean, with_numbers, commit_view, withdraw_view, gate_step_view, drain_step_view, drain_view, told_commit};
 ghost use Rattle.shadow_forest.specs.Answers.{begin_refusal, step_answer, step_ticks, commit_refusal, withdraw_refusal, did_ticks, life_of, resumed_pair, looks_of, outs, IsWithin};
 ghost use Rattle.shadow_forest.specs.declared.answers.BeginRefusal.TheVariants.{Sealed, TooMany};
 ghost use Rattle.shadow_forest.specs.declared.answers.ShadowView.{ShadowView as ShadowViewOf};
@@ -32,6 +32,7 @@ use crate::answers::{
 use crate::bench::{Bench, Given, Job};
 use crate::committing::{cut_others, start_waiting};
 use crate::giving::slot_out;
+use crate::opening::granted_lanes;
 use crate::picking::{pick, role_at};
 use crate::priority::first_ended;
 use crate::rooms::{free_room, take_room};
@@ -106,6 +107,32 @@ impl Forest {
     {
         let items = table.len();
         let lines = IndexedLanes::open(alloc, items, k, lanes)?;
+        Forest::over(alloc, table, lines)
+    }
+
+    /// As `open`, with as many shadows a transaction as there is memory for: `k`, or else `k - 1`, and so on down to 1. What was refused
+    /// is given back before fewer are asked for. `Forest::k` answers how many were granted; `AllocError` where there is no room for one.
+    pub fn open_lean(alloc: Global, table: Table, k: u32, lanes: u32) -> Result<Forest, AllocError>
+        requires least { 1 ≤ k }
+        requires most { k ≤ 8 }
+        requires some { 1 ≤ lanes }
+        requires lanes { lanes ≤ 64 }
+        ensures { IfOk result (IsOpenedLean table k lanes) }
+    {
+        let items = table.len();
+        let lines = granted_lanes(alloc, items, k, lanes)?;
+        Forest::over(alloc, table, lines)
+    }
+
+    // A forest over these tables, in which nothing began, on lanes where nobody is started.
+    fn over(alloc: Global, table: Table, lines: IndexedLanes) -> Result<Forest, AllocError>
+        requires unstarted { lines.seats ≡ [] }
+        requires items { lines.items ≡ length table }
+        ensures { IfOk result (λ f. f ≡ opened_view table lines.most lines.lanes) }
+    {
+        // the limits come with the number of the started
+        let _ = lines.len();
+        let lanes = lines.lanes();
         let opening = table.copy()?;
         let mut journal = Journal::new(alloc, opening);
         journal.reserve(1)?;

@@ -9,6 +9,7 @@ mod committing;
 mod forest;
 mod giving;
 mod kept;
+mod opening;
 mod picking;
 mod priority;
 mod rooms;
