@@ -6,6 +6,8 @@ use crate::opening::{begin, one_table};
 use crate::stage::Stage;
 use crate::tally::{NOTHING, Tally};
 use crate::{events, history};
+use item_table::Table;
+use shadow_forest::Forest;
 use std::alloc::Global;
 use std::marker::Brand;
 use std::sync::ledger::Blank;
@@ -70,5 +72,13 @@ fn calls_that_take_memory_answer(rt: HostRuntime) -> Result<(), Fail> {
     let first = begin(alloc, &names, &mut stage, 1, "{ emit 1; }")?;
     assert_eq!(rt; first, Ok(1));
     assert_eq!(rt; stage.forest().shadows(1), 1);
+    Ok(())
+}
+
+#[test]
+fn ample_memory_grants_each_shadow(rt: HostRuntime) -> Result<(), Fail> {
+    let alloc = rt.alloc();
+    let forest = Forest::open_lean(alloc, Table::new(alloc, 4)?, 3, 2)?;
+    assert_eq!(rt; forest.k(), 3);
     Ok(())
 }

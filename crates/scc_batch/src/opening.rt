@@ -11,8 +11,8 @@ use item_table::Table;
 use shadow_forest::Forest;
 use std::alloc::{AllocError, Global};
 
-// A forest over these tables in which these programs, at most 20,000, began in this order, and no more may begin. `AllocError` for
-// want of memory.
+// A forest over these tables in which these programs, at most 20,000, began in this order, and no more may begin, with k shadows a
+// transaction or as many below it as there is memory for. `AllocError` for want of memory.
 pub(crate) fn opened(
     alloc: Global,
     table: Table,
@@ -26,7 +26,7 @@ pub(crate) fn opened(
     requires within { All (IsWithin (length table)) requests.items }
     ensures { IfOk result (λ f. HasBegun table requests.items (Sealed ∷ []) f.numbers) }
 {
-    let mut forest = Forest::open(alloc, table, k, lanes)?;
+    let mut forest = Forest::open_lean(alloc, table, k, lanes)?;
     begin_all(&mut forest, requests)?;
     forest.seal();
     Ok(forest)
